@@ -1,0 +1,4 @@
+pub mod RowLaws
+pub mod SieveLaws
+pub mod ShorteningLaws
+pub mod Claims

@@ -1,0 +1,2 @@
+pub mod Sieves
+pub mod Claims

@@ -1,0 +1,151 @@
+-- The table of refusals: what a call that is not refused has shown, what is enough not to be refused, what each row answers.
+use mathlib.Core.Bool.{Bool, _&&_, _||_, cond, false, not, true}
+use mathlib.Core.List.{List, [], _∷_}
+use mathlib.Core.Path.{_∙_, _≡_, ap, ap₂, refl, subst, sym}
+use Prim.Native.Nat.{_*_, _≤_, suc, zero, ℕ}
+use native.Mathlib.Nat.{suc-ne-zero}
+use borrow.Author.Tests.{eq-eqb, eqb-true, le-ltb, not-false}
+use lib.Dec.{T, T-not, eqb}
+use lib.ListN.{length}
+use Rattle.morphology.specs.Answers.{Outcome, outcome, refused}
+use Rattle.morphology.specs.Element.{isElement, offsets}
+use Rattle.morphology.specs.Image.{isClean, planeBytes}
+use Rattle.morphology.specs.Operations.{decomposeRows, reconstructRows}
+use Rattle.morphology.specs.Refusals.{Row, firstRefusal, imageRows, isSide, isWild, maxSide, notPlane, row3, unless}
+
+pub or-out-false : (a b : Bool) → (a || b) ≡ false → (a ≡ false) × (b ≡ false)
+or-out-false true b e = absurd (subst T e tt)
+or-out-false false b e = (refl, e)
+
+pub or-in-false : (a b : Bool) → a ≡ false → b ≡ false → (a || b) ≡ false
+or-in-false a b p q = ap₂ (λ (x y : Bool). x || y) p q
+
+pub not-T-false : (b : Bool) → T b → not b ≡ false
+not-T-false true t = refl
+not-T-false false t = absurd t
+
+pub T-of-not : (b : Bool) → not b ≡ false → T b
+T-of-not true e = tt
+T-of-not false e = subst T e tt
+
+pub false-of : (b : Bool) → (T b → ⊥) → b ≡ false
+false-of true f = absurd (f tt)
+false-of false f = refl
+
+-- ---- the first row that holds
+
+pub first-hit : (n : ℕ) (t : Bool) (rows : List Row) → t ≡ true → firstRefusal ((n, t) ∷ rows) ≡ n
+unfolding firstRefusal
+first-hit n t rows q = ap (λ (b : Bool). cond b n (firstRefusal rows)) q
+
+pub first-miss : (n : ℕ) (t : Bool) (rows : List Row) → t ≡ false → firstRefusal ((n, t) ∷ rows) ≡ firstRefusal rows
+unfolding firstRefusal
+first-miss n t rows q = ap (λ (b : Bool). cond b n (firstRefusal rows)) q
+
+pub first-none : firstRefusal [] ≡ 0
+unfolding firstRefusal
+first-none = refl
+
+-- where none holds, neither the first nor another
+pub first-out : (n : ℕ) (t : Bool) (rows : List Row) → T (not (eqb n 0)) → firstRefusal ((n, t) ∷ rows) ≡ 0 → (t ≡ false) × (firstRefusal rows ≡ 0)
+unfolding firstRefusal
+first-out n true rows h q = absurd (T-not (eqb n 0) h (subst (λ (m : ℕ). T (eqb m 0)) (sym q) tt))
+first-out n false rows h q = (refl, q)
+
+-- no row holds
+abbrev pub Clear : List Row → Type 0
+Clear [] = Unit {0}
+Clear (r ∷ rows) = (r .1 ≡ false) × Clear rows
+
+pub first-clear : (rows : List Row) → Clear rows → firstRefusal rows ≡ 0
+unfolding firstRefusal
+first-clear [] c = refl
+first-clear (r ∷ rows) c = ap (λ (b : Bool). cond b (r .0) (firstRefusal rows)) (c .0) ∙ first-clear rows (c .1)
+
+-- an outcome that is not refused is the success
+pub unless-out : (r : ℕ) (l : List (List ℕ)) (o : Outcome) → unless r l o .answer .refusal ≡ 0 → unless r l o ≡ o
+unless-out zero l o e = refl
+unless-out (suc r) l o e = absurd (suc-ne-zero r e)
+
+pub unless-zero : (r : ℕ) (l : List (List ℕ)) (o : Outcome) → unless r l o .answer .refusal ≡ 0 → r ≡ 0
+unless-zero zero l o e = refl
+unless-zero (suc r) l o e = absurd (suc-ne-zero r e)
+
+pub unless-in : (r : ℕ) (l : List (List ℕ)) (o : Outcome) → r ≡ 0 → unless r l o ≡ o
+unless-in r l o e = ap (λ (n : ℕ). unless n l o) e
+
+-- a refusal answers its number and changes nothing
+pub unless-refused : (r : ℕ) (l : List (List ℕ)) (o : Outcome) → T (not (eqb r 0)) → unless r l o ≡ outcome (refused r) l
+unless-refused zero l o t = absurd t
+unless-refused (suc r) l o t = refl
+
+-- ---- one row at a time
+
+pub plane-fits : (a b : ℕ) → a ≡ b → not (eqb a b) ≡ false
+plane-fits a b e = ap not (eq-eqb a b e)
+
+pub fits-plane : (a b : ℕ) → not (eqb a b) ≡ false → a ≡ b
+fits-plane a b e = eqb-true a b (not-false (eqb a b) e)
+
+-- row 3 of the lengths of a call: none is wrong
+pub lengths-one : (a : Bool) → a ≡ false → row3 (a ∷ []) .1 ≡ false
+lengths-one a p = or-in-false a false p refl
+
+pub lengths-three : (a b c : Bool) → a ≡ false → b ≡ false → c ≡ false → row3 (a ∷ b ∷ c ∷ []) .1 ≡ false
+lengths-three a b c p q r = or-in-false a (b || (c || false)) p (or-in-false b (c || false) q (or-in-false c false r refl))
+
+-- ---- an image that rows 1, 3 and 4 let pass
+
+pub record Good (W H : ℕ) (image : List ℕ) : Type 0 where
+  pub sides : T (isSide W && isSide H)
+  pub size : length image ≡ planeBytes W H
+  pub clean : T (isClean W H image)
+
+pub good : (W H : ℕ) (image : List ℕ) → firstRefusal (imageRows W H image) ≡ 0 → Good W H image
+good W H image z =
+    let r1 = first-out 1 _ _ tt z in
+    let r3 = first-out 3 _ _ tt (r1 .1) in
+    let r4 = first-out 4 _ _ tt (r3 .1) in
+    record {
+      sides = T-of-not (isSide W && isSide H) (r1 .0);
+      size = fits-plane (length image) (planeBytes W H) (or-out-false (notPlane W H image) false (r3 .0) .0);
+      clean = T-of-not (isClean W H image) (r4 .0);
+    }
+
+pub image-passes : (W H : ℕ) (image : List ℕ) → Good W H image → firstRefusal (imageRows W H image) ≡ 0
+image-passes W H image g =
+    first-clear (imageRows W H image) (
+      not-T-false (isSide W && isSide H) (g .sides),
+      (lengths-one (notPlane W H image) (plane-fits (length image) (planeBytes W H) (g .size)), (not-T-false (isClean W H image) (g .clean), tt)),
+    )
+
+-- ---- what is enough for a decomposition and a reconstruction
+
+pub decompose-passes : (W H e : ℕ) (image m w : List ℕ) → Good W H image → T (isElement e) → length m ≡ W * H → 3 * planeBytes W H ≤ length w
+    → firstRefusal (decomposeRows W H e image m w) ≡ 0
+decompose-passes W H e image m w g el hm hw =
+    first-clear (decomposeRows W H e image m w) (
+      not-T-false (isSide W && isSide H) (g .sides),
+      (
+        not-T-false (isElement e) el,
+        (
+          lengths-three _ _ _ (plane-fits (length image) (planeBytes W H) (g .size)) (plane-fits (length m) (W * H) hm) (le-ltb (length w) (3 * planeBytes W H) hw),
+          (not-T-false (isClean W H image) (g .clean), tt),
+        ),
+      ),
+    )
+
+pub reconstruct-passes : (W H e k : ℕ) (m target w : List ℕ) → T (isSide W && isSide H) → T (isElement e) → length m ≡ W * H
+    → length target ≡ planeBytes W H
+    → 3 * planeBytes W H ≤ length w → isWild W H (offsets e) k m ≡ false → k ≤ maxSide → firstRefusal (reconstructRows W H e k m target w) ≡ 0
+reconstruct-passes W H e k m target w s el hm ht hw tame h =
+    first-clear (reconstructRows W H e k m target w) (
+      not-T-false (isSide W && isSide H) s,
+      (
+        not-T-false (isElement e) el,
+        (
+          lengths-three _ _ _ (plane-fits (length m) (W * H) hm) (plane-fits (length target) (planeBytes W H) ht) (le-ltb (length w) (3 * planeBytes W H) hw),
+          (tame, (le-ltb maxSide k h, tt)),
+        ),
+      ),
+    )
