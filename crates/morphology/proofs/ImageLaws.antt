@@ -13,7 +13,7 @@ use lib.IntN.{negsuc, pos, ℤ}
 use lib.ListN.{drop, getD, length, length-append, length-drop, length-replicate, replicate}
 use lib.Pow.{areBytes, field, high, pow-add, pow-pos, shr-lt, split}
 use lib.Seq.{ext-getD}
-use Rattle.morphology.specs.Image.{bitOf, fromBits, imageSet, inside, isClean, pack, pixel, planeBytes, stride}
+use Rattle.morphology.specs.Image.{bitOf, clip, fromBits, imageSet, inside, isClean, pack, pixel, planeBytes, stride}
 use Rattle.morphology.specs.Lists.{all, tabulate, upTo}
 use Rattle.morphology.specs.Operations.{cleared}
 use Rattle.morphology.specs.Point.{Point, at}
@@ -258,3 +258,55 @@ unfolding cleared
 length-cleared W H work h =
     let n = 3 * planeBytes W H in
     length-append (replicate n 0) (drop n work) ∙ ap₂ (λ (a b : ℕ). a + b) (length-replicate n 0) (length-drop n work) ∙ omega arith
+
+-- ---- only the first P bytes matter
+
+-- two buffers with the same first P bytes
+abbrev pub Agree : ℕ → ℕ → List ℕ → List ℕ → Type 0
+Agree W H a b = (j : ℕ) → j < planeBytes W H → getD a j 0 ≡ getD b j 0
+
+pixel-agree : (W H : ℕ) (a b : List ℕ) → Agree W H a b → (x y : ℕ) → x / 8 < stride W → y < H → pixel W a x y ≡ pixel W b x y
+unfolding pixel
+pixel-agree W H a b f x y hx hy = ap (λ (v : ℕ). bitOf v (x % 8)) (f (y * stride W + x / 8) (digits-lt hy hx))
+
+image-to : (W H : ℕ) (a b : List ℕ) → Agree W H a b → (x y : ℤ) → T (imageSet W H a (at x y)) → T (imageSet W H b (at x y))
+unfolding imageSet stride
+image-to W H a b f (pos x) (pos y) t =
+    let tx = and-l (ltb x W) (ltb y H && pixel W a x y) t in
+    let u = and-r (ltb x W) (ltb y H && pixel W a x y) t in
+    let ty = and-l (ltb y H) (pixel W a x y) u in
+    let hx = ltb→lt x W tx in
+    and-in (ltb x W) (ltb y H && pixel W b x y) tx
+    (and-in (ltb y H) (pixel W b x y) ty (subst T (pixel-agree W H a b f x y (omega arith) (ltb→lt y H ty)) (and-r (ltb y H) (pixel W a x y) u)))
+image-to W H a b f (pos x) (negsuc y) t = t
+image-to W H a b f (negsuc x) y t = t
+
+pub image-agree : (W H : ℕ) (a b : List ℕ) → Agree W H a b → imageSet W H a ≡ imageSet W H b
+image-agree W H a b f = fun-ext (λ p. T-ext (image-to W H a b f (p .x) (p .y)) (image-to W H b a (λ j h. sym (f j h)) (p .x) (p .y)))
+
+pub clean-agree : (W H : ℕ) (a b : List ℕ) → Agree W H a b → T (isClean W H a) → T (isClean W H b)
+unfolding isClean
+clean-agree W H a b f t =
+    all-in (λ y. all (λ x. not (pixel W b x y)) (tabulate (λ x. x) W (stride W * 8 - W))) (upTo H) (λ y my.
+    all-in (λ x. not (pixel W b x y)) (tabulate (λ x. x) W (stride W * 8 - W)) (λ x mx.
+    let ry = row-mem (λ y. y) 0 H my in
+    let rx = row-mem (λ x. x) W (stride W * 8 - W) mx in
+    let hy : y < H = subst (λ (k : ℕ). k < H) (sym (ry .2 ∙ zero-add (ry .0))) (ry .1) in
+    let hx : x / 8 < stride W = omega (arith, rx .1, rx .2) in
+    subst (λ (c : Bool). T (not c)) (pixel-agree W H a b f x y hx hy)
+    (all-out (λ x. not (pixel W a x y)) (all-out (λ y. all (λ x. not (pixel W a x y)) (tabulate (λ x. x) W (stride W * 8 - W))) t my) mx)))
+
+-- ---- the part of a set on the frame
+
+pub clip-is : (W H : ℕ) (X : Point → Bool) → OnFrame W H X → clip W H X ≡ X
+unfolding clip
+clip-is W H X on =
+    fun-ext (λ z. T-ext (λ t. and-r (inside W (z .x) && inside H (z .y)) (X z) t)
+    (λ t. and-in (inside W (z .x) && inside H (z .y)) (X z) (and-in (inside W (z .x)) (inside H (z .y)) (on .across z t) (on .down z t)) t))
+
+pub clip-on : (W H : ℕ) (X : Point → Bool) → OnFrame W H (clip W H X)
+unfolding clip
+clip-on W H X = record {
+  across = λ z t. and-l (inside W (z .x)) (inside H (z .y)) (and-l (inside W (z .x) && inside H (z .y)) (X z) t);
+  down = λ z t. and-r (inside W (z .x)) (inside H (z .y)) (and-l (inside W (z .x) && inside H (z .y)) (X z) t);
+}

@@ -20,6 +20,12 @@ or-out-false false b e = (refl, e)
 pub or-in-false : (a b : Bool) → a ≡ false → b ≡ false → (a || b) ≡ false
 or-in-false a b p q = ap₂ (λ (x y : Bool). x || y) p q
 
+pub or-hit : (a b : Bool) → a ≡ true → (a || b) ≡ true
+or-hit a b p = ap (λ (x : Bool). x || b) p
+
+pub or-miss : (a b : Bool) {t : Bool} → a ≡ false → b ≡ t → (a || b) ≡ t
+or-miss a b p q = ap (λ (x : Bool). x || b) p ∙ q
+
 pub not-T-false : (b : Bool) → T b → not b ≡ false
 not-T-false true t = refl
 not-T-false false t = absurd t
@@ -75,9 +81,9 @@ pub unless-in : (r : ℕ) (l : List (List ℕ)) (o : Outcome) → r ≡ 0 → un
 unless-in r l o e = ap (λ (n : ℕ). unless n l o) e
 
 -- a refusal answers its number and changes nothing
-pub unless-refused : (r : ℕ) (l : List (List ℕ)) (o : Outcome) → T (not (eqb r 0)) → unless r l o ≡ outcome (refused r) l
-unless-refused zero l o t = absurd t
-unless-refused (suc r) l o t = refl
+pub unless-refused : (r : ℕ) (l : List (List ℕ)) (o : Outcome) → (r ≡ 0 → ⊥) → unless r l o ≡ outcome (refused r) l
+unless-refused zero l o f = absurd (f refl)
+unless-refused (suc r) l o f = refl
 
 -- ---- one row at a time
 
@@ -93,6 +99,13 @@ lengths-one a p = or-in-false a false p refl
 
 pub lengths-three : (a b c : Bool) → a ≡ false → b ≡ false → c ≡ false → row3 (a ∷ b ∷ c ∷ []) .1 ≡ false
 lengths-three a b c p q r = or-in-false a (b || (c || false)) p (or-in-false b (c || false) q (or-in-false c false r refl))
+
+-- and what row 3 has then shown
+pub three-out : (a b c : Bool) → row3 (a ∷ b ∷ c ∷ []) .1 ≡ false → (a ≡ false) × (b ≡ false) × (c ≡ false)
+three-out a b c e =
+    let p = or-out-false a (b || (c || false)) e in
+    let q = or-out-false b (c || false) (p .1) in
+    (p .0, q .0, or-out-false c false (q .1) .0)
 
 -- ---- an image that rows 1, 3 and 4 let pass
 

@@ -20,6 +20,10 @@ inside W (negsuc x) = false
 abbrev pub onFrame : ℕ → ℕ → Point → Bool
 onFrame W H p = inside W (p .x) && inside H (p .y)
 
+-- the part of a set that lies on the frame
+unfoldable pub clip : ℕ → ℕ → (Point → Bool) → (Point → Bool)
+clip W H X z = onFrame W H z && X z
+
 -- ---- bytes: rows one after the other, padded to whole bytes
 
 -- bytes of a row ("R" in 01)

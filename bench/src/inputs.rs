@@ -1,0 +1,41 @@
+//! What is timed: frames of 255 by 255 and the named elements.
+
+/// Both sides of every frame, and the bytes of a row.
+pub const SIDE: u32 = 255;
+const STRIDE: usize = 32;
+
+pub const ELEMENTS: [(&str, u32); 5] = [
+    ("SQUARE", 473536),
+    ("PLUS", 145536),
+    ("ROUND", 15728622),
+    ("RIGHT", 12288),
+    ("LEFT", 6144),
+];
+
+/// The images, by name.
+pub fn images() -> [(&'static str, Vec<u8>); 5] {
+    let scan = |scan: &[u8]| scan[6..].to_vec();
+    [
+        ("all ink", image(|_, _| true)),
+        ("stripes across", image(|_, y| y % 5 < 3)),
+        ("stripes down", image(|x, _| x % 5 < 3)),
+        (
+            "sheet 0417",
+            scan(include_bytes!("../../samples/sheet-0417.scan")),
+        ),
+        (
+            "sheet 417",
+            scan(include_bytes!("../../samples/sheet-417.scan")),
+        ),
+    ]
+}
+
+fn image(test: impl Fn(usize, usize) -> bool) -> Vec<u8> {
+    let mut image = vec![0; STRIDE * SIDE as usize];
+    for (y, row) in image.chunks_exact_mut(STRIDE).enumerate() {
+        for x in (0..SIDE as usize).filter(|&x| test(x, y)) {
+            row[x / 8] |= 0x80 >> (x % 8);
+        }
+    }
+    image
+}

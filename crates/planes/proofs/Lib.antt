@@ -1,0 +1,4 @@
+pub mod NeighbourLaws
+pub mod SetLaws
+pub mod PlaneLaws
+pub mod SideLaws

@@ -1,0 +1,175 @@
+-- A plane eroded or dilated is the packed set.
+use mathlib.Core.Bool.{Bool, _&&_, false, true}
+use mathlib.Core.List.{List, List·Memᴰ, _++_}
+use mathlib.Core.Path.{_∙_, _≡_, ap, refl, subst, sym}
+use Prim.Native.Nat.{_*_, _+_, _-_, _<_, _≤_, ℕ}
+use native.Mathlib.Decide.{decLt}
+use native.Mathlib.Nat.{le-refl}
+use native.Mathlib.Omega.{arith}
+use borrow.Author.Tests.{lt-ltb}
+use lib.Dec.{T, lit<, ltb}
+use lib.IntN.{pos}
+use lib.ListN.{List·getD-append, List·getD-eq-default, drop, getD, length, length-drop, take}
+use lib.Seq.{getD-drop, getD-take, length-take-le, take-all}
+use Rattle.morphology.specs.Element.{bit, offset, offsets}
+use Rattle.morphology.specs.Image.{clip, imageSet, isClean, pack, planeBytes, stride}
+use Rattle.morphology.specs.Morphology.{dilate, erode, opening}
+use Rattle.morphology.specs.Point.{Point, at, origin}
+use Rattle.morphology.proofs.ElementLaws.{in-below}
+use Rattle.morphology.proofs.FrameLaws.{OnFrame}
+use Rattle.morphology.proofs.ImageLaws.{Agree, clean-agree, clean-pack, clip-is, image-agree, image-on, image-pack, length-pack}
+use Rattle.morphology.proofs.MorphologyLaws.{erode-out, open-sub}
+use Rattle.morphology.proofs.PlaneLaws.{on-sub}
+use Rattle.morphology.proofs.PointLaws.{unit}
+use Rattle.raster.specs.Rows.{overwrite, rowBit}
+use Rattle.raster.proofs.PartLaws.{cut-bit, drop-overwrite, length-overwrite, overwrite-is, overwrite-rest}
+use Rattle.raster.proofs.RowLaws.{row-in}
+use Rattle.planes.specs.Frames.{Frame, morphed}
+use Rattle.planes.specs.Neighbours.{RowsTo, neighbours}
+use Rattle.planes.proofs.SetLaws.{near-image, neighbours-set, pack-pixels}
+
+-- ---- frames
+
+pub frame-row : {w h r : ℕ} → Frame w h r → (w ≤ 8 * r) × (8 * r < w + 8) × (0 < r) × (r ≤ 128)
+unfolding stride
+frame-row {w} {h} {r} f =
+    let a = f .wide in
+    let b = f .across in
+    let c = f .row in
+    (omega arith, omega arith, omega arith, omega arith)
+
+pub frame-bytes : {w h r : ℕ} → Frame w h r → h * r ≡ planeBytes w h
+frame-bytes {w} {h} {r} f = ap (λ (n : ℕ). h * n) (f .row)
+
+-- ---- sets on the frame
+
+pub origin-in : (e : ℕ) → T (bit e 12) → List·Memᴰ origin (offsets e)
+unfolding offsets offset origin
+origin-in e t = in-below 2 e 25 12 (lit< tt) t
+
+pub erode-on : (W H e : ℕ) (X : Point → Bool) → T (bit e 12) → OnFrame W H X → OnFrame W H (erode (offsets e) X)
+erode-on W H e X o on =
+    on-sub W H (erode (offsets e) X) X (λ z t. subst (λ (y : Point). T (X y)) (unit z) (erode-out (offsets e) X z t (origin-in e o))) on
+
+-- ---- the plane at p
+
+part-bytes : (a k : ℕ) (l : List ℕ) → ((i : ℕ) → getD l i 0 < 256) → a + k ≤ length l → (i : ℕ) → getD (take k (drop a l)) i 0 < 256
+part-bytes a k l h hl i = by (decLt i k)
+  where
+    by : Dec (i < k) → getD (take k (drop a l)) i 0 < 256
+    by (yes z) = subst (λ (n : ℕ). n < 256) (sym (getD-take k (drop a l) i 0 z ∙ getD-drop a l i 0)) (h (a + i))
+    by (no z) =
+        let c = length-take-le k (drop a l) (omega (arith, length-drop a l)) in
+        subst (λ (n : ℕ). n < 256) (sym (List·getD-eq-default (take k (drop a l)) 0 (omega arith))) (lit< tt)
+
+cut-swap : (m a b : Bool) → b ≡ true → (m && a) ≡ ((a && b) && m)
+cut-swap true true true e = refl
+cut-swap true false true e = refl
+cut-swap false true true e = refl
+cut-swap false false true e = refl
+cut-swap true true false e = sym e
+cut-swap true false false e = refl
+cut-swap false true false e = refl
+cut-swap false false false e = refl
+
+pub plane-done : (t : Bool) (W H r p e : ℕ) (old new : List ℕ) → Frame W H r → H * r ≤ p → p + H * r ≤ length old → T (isClean W H old)
+    → ((i : ℕ) → getD new i 0 < 256)
+    → RowsTo t H p W r H e old new → new ≡ overwrite p (pack W H (clip W H (morphed t (offsets e) (imageSet W H old)))) old
+unfolding clip
+plane-done t W H r p e old new f hp h clean bytes m =
+    overwrite-is p n old ys new (length-pack W H Y ∙ sym (frame-bytes f)) h (record {
+      size = m .size;
+      within = λ j l. sym (getD-drop p new j 0) ∙ sym (getD-take n (drop p new) j 0 l) ∙ ap (λ (s : List ℕ). getD s j 0) (sym written);
+      before = m .before;
+      after = m .after;
+    })
+  where
+    n : ℕ
+    n = H * r
+
+    S : Point → Bool
+    S = imageSet W H old
+
+    Y : Point → Bool
+    Y = clip W H (morphed t (offsets e) S)
+
+    ys : List ℕ
+    ys = pack W H Y
+
+    bits : (r : ℕ) → r ≡ stride W → RowsTo t H p W r H e old new → (y x : ℕ) → y < H → x < 8 * r
+        → rowBit (take (H * r) (drop p new)) (8 * (y * r) + x) ≡ Y (at (pos x) (pos y))
+    bits r q m y x hy hx =
+        let i = row-in y H r (H * r) hy (le-refl (H * r)) in
+        let z : 8 * p + (8 * (y * r) + x) ≡ 8 * (p + y * r) + x = omega arith in
+        cut-bit p (H * r) new (8 * (y * r) + x) (omega arith) ∙ ap (rowBit new) z ∙ m .pixels y x hy hx
+        ∙ ap (λ (b : Bool). b && ltb x W) ((λ i. neighbours t e (λ X Y. near-image W H r old q clean X Y i) x y) ∙ neighbours-set t e S x y)
+        ∙ cut-swap (morphed t (offsets e) S (at (pos x) (pos y))) (ltb x W) (ltb y H) (lt-ltb y H hy)
+
+    written : pack W H Y ≡ take n (drop p new)
+    written =
+        let sz = m .size in
+        pack-pixels W H Y (take n (drop p new))
+        (length-take-le n (drop p new) (omega (arith, length-drop p new)) ∙ frame-bytes f)
+        (part-bytes p n new bytes (omega arith))
+        (subst (λ (k : ℕ). (y x : ℕ) → y < H → x < 8 * k → rowBit (take n (drop p new)) (8 * (y * k) + x) ≡ Y (at (pos x) (pos y))) (f .row) (bits r (f .row) m))
+
+-- with the origin in the element, an eroded image lies on the frame
+pub erosion-done : (W H r p e : ℕ) (old new : List ℕ) → Frame W H r → H * r ≤ p → p + H * r ≤ length old → T (bit e 12) → T (isClean W H old)
+    → ((i : ℕ) → getD new i 0 < 256)
+    → RowsTo false H p W r H e old new → new ≡ overwrite p (pack W H (erode (offsets e) (imageSet W H old))) old
+erosion-done W H r p e old new f hp h o clean bytes m =
+    let S = imageSet W H old in
+    plane-done false W H r p e old new f hp h clean bytes m
+    ∙ ap (λ (X : Point → Bool). overwrite p (pack W H X) old) (clip-is W H (erode (offsets e) S) (erode-on W H e S o (image-on W H old)))
+
+-- ---- an opening: the planes from the second on lent as one part
+
+-- a plane followed by anything
+pub agree-front : (W H : ℕ) (s t : List ℕ) → length s ≡ planeBytes W H → Agree W H (s ++ t) s
+agree-front W H s t e j h = List·getD-append s t 0 j (omega arith)
+
+module _ (W H r p e : ℕ) (old v : List ℕ) (k : ℕ) (f : Frame W H r) (hp : H * r ≤ p) (h : p + p + H * r ≤ length old) (o : T (bit e 12))
+    (ev : v ≡ overwrite p (pack W H (erode (offsets e) (imageSet W H old))) old) (ek : k ≡ length v - p) where
+  S : Point → Bool
+  S = imageSet W H old
+
+  E : Point → Bool
+  E = erode (offsets e) S
+
+  size : length (pack W H E) ≡ H * r
+  size = length-pack W H E ∙ sym (frame-bytes f)
+
+  long : length v ≡ length old
+  unfolding E S
+  long = ap length ev ∙ length-overwrite p (H * r) old (pack W H E) size (omega arith)
+
+  -- what is lent: the eroded plane, and the rest
+  lent : take k (drop p v) ≡ pack W H E ++ drop (p + H * r) old
+  unfolding E S
+  lent = take-all k (drop p v) (omega (arith, length-drop p v)) ∙ ap (drop p) ev ∙ drop-overwrite p (H * r) old (pack W H E) size (omega arith)
+
+  pub rest-long : p + H * r ≤ length (take k (drop p v))
+  rest-long = omega (arith, ap length (take-all k (drop p v) (omega (arith, length-drop p v))), length-drop p v, long)
+
+  on : OnFrame W H E
+  unfolding E S
+  on = erode-on W H e S o (image-on W H old)
+
+  agree : Agree W H (take k (drop p v)) (pack W H E)
+  agree j l = ap (λ (s : List ℕ). getD s j 0) lent ∙ agree-front W H (pack W H E) (drop (p + H * r) old) (length-pack W H E) j l
+
+  pub rest-clean : T (isClean W H (take k (drop p v)))
+  rest-clean = clean-agree W H (pack W H E) (take k (drop p v)) (λ j l. sym (agree j l)) (clean-pack W H E on)
+
+  pub open-done : (ys : List ℕ) → ys ≡ overwrite p (pack W H (clip W H (dilate (offsets e) (imageSet W H (take k (drop p v)))))) (take k (drop p v))
+      → take p v ++ (ys ++ drop k (drop p v)) ≡ overwrite (p + p) (pack W H (opening (offsets e) (imageSet W H old))) (overwrite p (pack W H (erode (offsets e) (imageSet W H old))) old)
+  unfolding opening E S
+  open-done ys ey =
+      let B = offsets e in
+      let q : clip W H (dilate B (imageSet W H (take k (drop p v)))) ≡ dilate B E =
+      ap (λ (Y : Point → Bool). clip W H (dilate B Y)) (image-agree W H (take k (drop p v)) (pack W H E) agree ∙ image-pack W H E on)
+      ∙ clip-is W H (dilate B E) (on-sub W H (dilate B E) S (open-sub B S) (image-on W H old)) in
+      let z = length-pack W H (dilate B E) ∙ sym (frame-bytes f) in
+      ap (λ (s : List ℕ). take p v ++ (s ++ drop k (drop p v))) (ey ∙ ap (λ (Y : Point → Bool). overwrite p (pack W H Y) (take k (drop p v))) q)
+      ∙ overwrite-rest p k p (H * r) v (pack W H (dilate B E)) (omega (arith, long)) ek z (omega (arith, long))
+      ∙ ap (overwrite (p + p) (pack W H (dilate B E))) ev

@@ -1,0 +1,15 @@
+-- `planes::refusals::not_places` meets its contract.
+use native.Mathlib.Omega.{arith}
+use borrow.Author.Needs.{needs}
+use Rattle.planes.proofs.SideLaws.{sides-of, sides-places}
+use Rattle.planes.proofs.refusals.not_places.Statement.{statement}
+use Rattle.planes.proofs.refusals.not_places.Tie as tie
+
+mul-result : tie.Need-mul-result
+mul-result c = let a = c .args in omega (arith, sides-places (sides-of (a .w) (a .h) (c .pre)))
+
+returns : tie.Need-returns
+returns c = search needs
+
+pub not-places-spec : {M : Type 1} → statement M
+not-places-spec = tie.close (tie.spec mul-result returns)

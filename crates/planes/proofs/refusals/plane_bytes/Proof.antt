@@ -1,0 +1,21 @@
+-- `planes::refusals::plane_bytes` meets its contract.
+use mathlib.Core.Path.{refl}
+use native.Mathlib.Omega.{arith}
+use borrow.Author.Needs.{needs}
+use Rattle.morphology.specs.Image.{stride}
+use Rattle.planes.proofs.SideLaws.{sides-of, sides-plane}
+use Rattle.planes.proofs.refusals.plane_bytes.Statement.{statement}
+use Rattle.planes.proofs.refusals.plane_bytes.Tie as tie
+
+add-result : tie.Need-add-result
+add-result c = search needs
+
+mul-result : tie.Need-mul-result
+mul-result c = let a = c .args in omega (arith, sides-plane (sides-of (a .w) (a .h) (c .pre)))
+
+returns : tie.Need-returns
+unfolding stride
+returns c = refl
+
+pub plane-bytes-spec : {M : Type 1} → statement M
+plane-bytes-spec = tie.close (tie.spec add-result mul-result returns)

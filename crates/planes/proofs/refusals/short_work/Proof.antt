@@ -1,0 +1,25 @@
+-- `planes::refusals::short_work` meets its contract.
+use mathlib.Core.Path.{ap}
+use Prim.Native.Nat.{_*_, ℕ}
+use native.Mathlib.Omega.{arith}
+use borrow.Author.Needs.{needs}
+use denote.Ref.{now}
+use lib.Dec.{ltb}
+use lib.ListN.{length}
+use Rattle.morphology.specs.Image.{stride}
+use Rattle.planes.proofs.SideLaws.{sides-of, sides-plane}
+use Rattle.planes.proofs.refusals.short_work.Statement.{statement}
+use Rattle.planes.proofs.refusals.short_work.Tie as tie
+
+plane-bytes-requires : tie.Need-plane-bytes-requires
+plane-bytes-requires c κs = search needs
+
+mul-result : tie.Need-mul-result
+unfolding stride
+mul-result c = let s = c .before .before in omega (arith, c .plane-bytes .ensures, sides-plane (sides-of (s .args .w) (s .args .h) (s .pre)))
+
+returns : tie.Need-returns
+returns c = ap (λ (p : ℕ). ltb (length (now (c .before .before .args .work))) (3 * p)) (c .plane-bytes .ensures)
+
+pub short-work-spec : {M : Type 1} → statement M
+short-work-spec = tie.close (tie.spec plane-bytes-requires mul-result returns)

@@ -1,0 +1,59 @@
+-- What an element asks of the pixels around a pixel, row by row: one pass for erosion (t = false) and dilation (t = true).
+-- Definitions only; proofs/NeighbourLaws.antt has the laws.
+use mathlib.Core.Bool.{Bool, _&&_, cond, false, not, true}
+use mathlib.Core.List.{List}
+use mathlib.Core.Path.{_≡_}
+use Prim.Native.Nat.{_*_, _+_, _-_, _/_, _<_, _^_, _≤_, suc, zero, ℕ}
+use lib.Dec.{leb, ltb}
+use lib.ListN.{getD, length}
+use Rattle.morphology.specs.Element.{bit}
+use Rattle.raster.specs.Rows.{join, rowBit}
+
+-- a row buffer: room for 128 bytes from byte 1 on; of a row of r bytes all others are 0
+pub record Margins (r : ℕ) (b : List ℕ) : Type 0 where
+  pub size : length b ≡ 130
+  pub first : getD b 0 0 ≡ 0
+  pub after : (j : ℕ) → r < j → getD b j 0 ≡ 0
+
+-- pixel (X - 8, Y - 2) of a plane of h rows of r bytes; background outside
+unfoldable pub nearBit : List ℕ → ℕ → ℕ → ℕ → ℕ → Bool
+nearBit plane r h X Y = leb 2 Y && (ltb (Y - 2) h && (leb 8 X && (ltb X (8 * r + 8) && rowBit plane (8 * ((Y - 2) * r) + (X - 8)))))
+
+-- there is a row Y - 2
+abbrev pub isNear : ℕ → ℕ → Bool
+isNear h Y = leb 2 Y && ltb (Y - 2) h
+
+-- b is row Y - 2 of a plane, between bytes of 0
+pub record NearRow (plane : List ℕ) (r h Y : ℕ) (b : List ℕ) : Type 0 where
+  pub margins : Margins r b
+  pub pixels : (X : ℕ) → rowBit b X ≡ nearBit plane r h X Y
+
+-- the offset k - 2, and its negative in a dilation
+abbrev pub turned : Bool → ℕ → ℕ
+turned true k = 4 - k
+turned false k = k
+
+-- the f below n joined
+unfoldable pub joined : Bool → ℕ → (ℕ → Bool) → Bool
+joined t zero f = not t
+joined t (suc n) f = join t (joined t n f) (f n)
+
+-- the byte of eight pixels that change nothing when they are joined
+abbrev pub startByte : Bool → ℕ
+startByte true = 0
+startByte false = 255
+
+-- what one row of an element, the lowest five bits, asks of a row of pixels at x
+unfoldable pub fiveOf : Bool → ℕ → (ℕ → Bool) → ℕ → Bool
+fiveOf t five row x = joined t 5 (λ j. cond (bit five j) (row (x + (turned t j + 6))) (not t))
+
+-- what the whole element asks at (x, y)
+unfoldable pub neighbours : Bool → ℕ → (ℕ → ℕ → Bool) → ℕ → ℕ → Bool
+neighbours t e near x y = joined t 5 (λ k. fiveOf t (e / 2 ^ (k * 5)) (λ X. near X (y + turned t k)) x)
+
+-- the first m rows of new at p are what the element asks of the h rows of old at 0, clipped at w; nothing else is changed
+pub record RowsTo (t : Bool) (m p w r h element : ℕ) (old new : List ℕ) : Type 0 where
+  pub size : length new ≡ length old
+  pub before : (j : ℕ) → j < p → getD new j 0 ≡ getD old j 0
+  pub after : (j : ℕ) → p + m * r ≤ j → getD new j 0 ≡ getD old j 0
+  pub pixels : (y x : ℕ) → y < m → x < 8 * r → rowBit new (8 * (p + y * r) + x) ≡ (neighbours t element (nearBit old r h) x y && ltb x w)

@@ -1,0 +1,199 @@
+pub mod refusals;
+
+ghost use mathlib.Core.Path.{_≡_};
+ghost use mathlib.Core.Bool.{not, _&&_, cond};
+ghost use Prim.Native.Nat.{_+_, _*_, _<_, _≤_};
+ghost use lib.Dec.{eqb, ltb, T};
+ghost use lib.ListN.{length};
+ghost use Rattle.morphology.specs.Element.{offsets, bit};
+ghost use Rattle.morphology.specs.Image.{imageSet, pack, isClean, clip};
+ghost use Rattle.morphology.specs.Morphology.{erode, dilate, opening};
+ghost use Rattle.raster.specs.Rows.{rowBit, join, overwrite, RowJoined, RowIs};
+ghost use Rattle.planes.specs.Frames.{Frame};
+ghost use Rattle.planes.specs.Neighbours.{nearBit, isNear, Margins, NearRow, turned, startByte, fiveOf, neighbours, RowsTo};
+
+// Whether a plane of h rows has a row yk - 2.
+fn is_near(h: usize, yk: usize) -> bool
+    ensures { λ b. ⌜ b ≡ isNear h yk ⌝ }
+{
+    if yk < 2 {
+        return false;
+    }
+    yk - 2 < h
+}
+
+// Row yk - 2 of a plane, or background where there is no such row, into the row buffer.
+fn load_near(plane: &[u8], r: usize, h: usize, yk: usize, buf: &mut [u8])
+    requires { ⌜ (h * r ≤ length (now plane)) × (r ≤ 128) × Margins r (now buf) ⌝ }
+    ensures { λ _. ⌜ NearRow (now (plane .entry)) r h yk (now (buf .exit)) ⌝ }
+{
+    if !is_near(h, yk) {
+        raster::fill(&mut buf[1..r + 1], 0);
+        return;
+    }
+    let at = (yk - 2) * r;
+    raster::copy(&plane[at..at + r], &mut buf[1..r + 1]);
+}
+
+// The offset k - 2 as k; in a dilation its negative.
+fn turn(dilating: bool, k: usize) -> usize
+    requires { ⌜ k < 5 ⌝ }
+    ensures { λ r. ⌜ r ≡ turned dilating k ⌝ }
+{
+    if dilating {
+        return 4 - k;
+    }
+    k
+}
+
+// Joins the row in buf, moved, to dst where digit is 1.
+fn join_if(dilating: bool, buf: &[u8], digit: u32, s: u32, dst: &mut [u8])
+    requires { ⌜ (s < 16) × (length (now dst) + 2 ≤ length (now buf)) ⌝ }
+    ensures { λ _. ⌜ RowJoined dilating (now (dst .entry)) (now (dst .exit)) (λ x. cond (eqb digit 1) (rowBit (now (buf .entry)) (x + s)) (not dilating)) ⌝ }
+{
+    if digit == 1 {
+        raster::join_row(dilating, buf, s, dst);
+    }
+}
+
+// Joins one row of the element, the lowest five bits, of the pixels in buf to dst.
+fn join_five(dilating: bool, buf: &[u8], five: u32, dst: &mut [u8])
+    requires { ⌜ length (now dst) + 2 ≤ length (now buf) ⌝ }
+    ensures { λ _. ⌜ RowJoined dilating (now (dst .entry)) (now (dst .exit)) (fiveOf dilating five (rowBit (now (buf .entry)))) ⌝ }
+{
+    let mut rest = five;
+    let mut j: usize = 0;
+    while j < 5 {
+        let s = turn(dilating, j) as u32 + 6;
+        join_if(dilating, buf, rest % 2, s, dst);
+        rest = rest / 2;
+        j = j + 1;
+    }
+}
+
+// Joins row k of the element, the lowest five bits of five, to row y of the plane at p.
+fn join_near(
+    dilating: bool,
+    work: &mut [u8],
+    p: usize,
+    r: usize,
+    h: usize,
+    y: usize,
+    k: usize,
+    five: u32,
+    buf: &mut [u8],
+)
+    requires { ⌜ (h * r ≤ p) × (p + h * r ≤ length (now work)) × (r ≤ 128) × (y < h) × (k < 5) × (h ≤ 1024) × Margins r (now buf) ⌝ }
+    ensures row { λ _. ⌜ RowIs (p + y * r) r (now (work .entry)) (now (work .exit)) (λ x. join dilating (rowBit (now (work .entry)) (8 * (p + y * r) + x)) (fiveOf dilating five (λ X. nearBit (now (work .entry)) r h X (y + turned dilating k)) x)) ⌝ }
+    ensures margins { λ _. ⌜ Margins r (now (buf .exit)) ⌝ }
+{
+    if five % 32 == 0 {
+        return;
+    }
+    let yk = y + turn(dilating, k);
+    load_near(&work[..], r, h, yk, buf);
+    let d = p + y * r;
+    join_five(dilating, &buf[..], five, &mut work[d..d + r]);
+}
+
+// Joins the whole element to row y of the plane at p.
+fn join_rows(
+    dilating: bool,
+    work: &mut [u8],
+    p: usize,
+    r: usize,
+    h: usize,
+    y: usize,
+    element: u32,
+    buf: &mut [u8],
+)
+    requires { ⌜ (h * r ≤ p) × (p + h * r ≤ length (now work)) × (r ≤ 128) × (y < h) × (h ≤ 1024) × Margins r (now buf) ⌝ }
+    ensures row { λ _. ⌜ RowIs (p + y * r) r (now (work .entry)) (now (work .exit)) (λ x. join dilating (rowBit (now (work .entry)) (8 * (p + y * r) + x)) (neighbours dilating element (nearBit (now (work .entry)) r h) x y)) ⌝ }
+    ensures margins { λ _. ⌜ Margins r (now (buf .exit)) ⌝ }
+{
+    let mut rest = element;
+    let mut k: usize = 0;
+    while k < 5 {
+        join_near(dilating, work, p, r, h, y, k, rest, buf);
+        rest = rest / 32;
+        k = k + 1;
+    }
+}
+
+// What a row begins with: background before a dilation, foreground before an erosion.
+fn start(dilating: bool) -> u8
+    ensures { λ v. ⌜ v ≡ startByte dilating ⌝ }
+{
+    if dilating {
+        return 0;
+    }
+    255
+}
+
+// Row y of the plane at p becomes row y of the first one eroded, or dilated.
+fn morph_row(
+    dilating: bool,
+    work: &mut [u8],
+    p: usize,
+    w: usize,
+    r: usize,
+    h: usize,
+    y: usize,
+    element: u32,
+    buf: &mut [u8],
+)
+    requires { ⌜ (h * r ≤ p) × (p + h * r ≤ length (now work)) × (w ≤ 8 * r) × (8 * r < w + 8) × (0 < r) × (r ≤ 128) × (y < h) × (h ≤ 1024) × Margins r (now buf) ⌝ }
+    ensures row { λ _. ⌜ RowIs (p + y * r) r (now (work .entry)) (now (work .exit)) (λ x. neighbours dilating element (nearBit (now (work .entry)) r h) x y && ltb x w) ⌝ }
+    ensures margins { λ _. ⌜ Margins r (now (buf .exit)) ⌝ }
+{
+    let d = p + y * r;
+    raster::fill(&mut work[d..d + r], start(dilating));
+    join_rows(dilating, work, p, r, h, y, element, buf);
+    raster::clear_padding(&mut work[d..d + r], w);
+}
+
+// The first plane, h rows of r bytes, eroded or dilated into the plane at p.
+fn morph_plane(
+    dilating: bool,
+    work: &mut [u8],
+    p: usize,
+    w: usize,
+    r: usize,
+    h: usize,
+    element: u32,
+)
+    requires { ⌜ (h * r ≤ p) × (p + h * r ≤ length (now work)) × (w ≤ 8 * r) × (8 * r < w + 8) × (0 < r) × (r ≤ 128) × (h ≤ 1024) ⌝ }
+    ensures { λ _. ⌜ RowsTo dilating h p w r h element (now (work .entry)) (now (work .exit)) ⌝ }
+{
+    let mut buf = [0u8; 130];
+    let mut y: usize = 0;
+    while y < h {
+        morph_row(dilating, work, p, w, r, h, y, element, &mut buf);
+        y = y + 1;
+    }
+}
+
+// The first plane of work, eroded into the one at p.
+pub fn erode_plane(w: usize, h: usize, r: usize, p: usize, element: u32, work: &mut [u8])
+    requires { ⌜ Frame w h r × (h * r ≤ p) × (p + h * r ≤ length (now work)) × T (bit element 12) × T (isClean w h (now work)) ⌝ }
+    ensures { λ _. ⌜ now (work .exit) ≡ overwrite p (pack w h (erode (offsets element) (imageSet w h (now (work .entry))))) (now (work .entry)) ⌝ }
+{
+    morph_plane(false, work, p, w, r, h, element);
+}
+
+// The first plane of work, dilated into the one at p and clipped at the frame.
+pub fn dilate_plane(w: usize, h: usize, r: usize, p: usize, element: u32, work: &mut [u8])
+    requires { ⌜ Frame w h r × (h * r ≤ p) × (p + h * r ≤ length (now work)) × T (isClean w h (now work)) ⌝ }
+    ensures { λ _. ⌜ now (work .exit) ≡ overwrite p (pack w h (clip w h (dilate (offsets element) (imageSet w h (now (work .entry)))))) (now (work .entry)) ⌝ }
+{
+    morph_plane(true, work, p, w, r, h, element);
+}
+
+// The first plane of work, eroded into the one at p; that one, dilated into the next: the opening.
+pub fn open_plane(w: usize, h: usize, r: usize, p: usize, element: u32, work: &mut [u8])
+    requires { ⌜ Frame w h r × (h * r ≤ p) × (p + p + h * r ≤ length (now work)) × T (bit element 12) × T (isClean w h (now work)) ⌝ }
+    ensures { λ _. ⌜ now (work .exit) ≡ overwrite (p + p) (pack w h (opening (offsets element) (imageSet w h (now (work .entry))))) (overwrite p (pack w h (erode (offsets element) (imageSet w h (now (work .entry))))) (now (work .entry))) ⌝ }
+{
+    erode_plane(w, h, r, p, element, work);
+    dilate_plane(w, h, r, p, element, &mut work[p..]);
+}

@@ -1,0 +1,92 @@
+ghost use mathlib.Core.Path.{_≡_};
+ghost use mathlib.Core.Bool.{false};
+ghost use lib.ListN.{length};
+ghost use Rattle.morphology.specs.Image.{planeBytes};
+ghost use Rattle.morphology.specs.Refusals.{isSide, notPlane, notPlaces, shortWork, row1, row2, row4, row7};
+
+// The largest side, cut and n.
+const MAX_SIDE: u32 = 255;
+
+const MASK_END: u32 = 33554432;
+
+const ORIGIN: u32 = 4096;
+
+fn is_side(n: u32) -> bool
+    ensures { λ r. ⌜ r ≡ isSide n ⌝ }
+{
+    if n == 0 {
+        return false;
+    }
+    n <= MAX_SIDE
+}
+
+// Row 1: a side is 0 or above the largest.
+pub fn bad_sides(w: u32, h: u32) -> bool
+    ensures { λ r. ⌜ r ≡ row1 w h .1 ⌝ }
+{
+    if !is_side(w) {
+        return true;
+    }
+    !is_side(h)
+}
+
+// Row 2: a mask is no structuring element.
+pub fn bad_element(mask: u32) -> bool
+    ensures { λ r. ⌜ r ≡ row2 mask .1 ⌝ }
+{
+    if mask >= MASK_END {
+        return true;
+    }
+    if mask / ORIGIN % 2 == 0 {
+        return true;
+    }
+    u32::count_ones(mask) < 2
+}
+
+// The bytes of an image.
+fn plane_bytes(w: u32, h: u32) -> usize
+    requires { ⌜ row1 w h .1 ≡ false ⌝ }
+    ensures { λ p. ⌜ p ≡ planeBytes w h ⌝ }
+{
+    h as usize * ((w as usize + 7) / 8)
+}
+
+// Row 3: an image is not P bytes.
+pub fn not_plane(w: u32, h: u32, s: &[u8]) -> bool
+    requires { ⌜ row1 w h .1 ≡ false ⌝ }
+    ensures { λ r. ⌜ r ≡ notPlane w h (now (s .entry)) ⌝ }
+{
+    s.len() != plane_bytes(w, h)
+}
+
+// Row 3: labels are not W times H.
+pub fn not_places(w: u32, h: u32, m: &[u8]) -> bool
+    requires { ⌜ row1 w h .1 ≡ false ⌝ }
+    ensures { λ r. ⌜ r ≡ notPlaces w h (now (m .entry)) ⌝ }
+{
+    m.len() != w as usize * h as usize
+}
+
+// Row 3: work is below 3P bytes.
+pub fn short_work(w: u32, h: u32, work: &[u8]) -> bool
+    requires { ⌜ row1 w h .1 ≡ false ⌝ }
+    ensures { λ r. ⌜ r ≡ shortWork w h (now (work .entry)) ⌝ }
+{
+    work.len() < 3 * plane_bytes(w, h)
+}
+
+// Row 4: an image has a 1 in its padding.
+pub fn bad_padding(w: u32, h: u32, s: &[u8]) -> bool
+    requires { ⌜ (row1 w h .1 ≡ false) × (notPlane w h (now s) ≡ false) ⌝ }
+    ensures { λ r. ⌜ r ≡ row4 w h (now (s .entry)) .1 ⌝ }
+{
+    let wide = w as usize;
+    !raster::is_clean(s, wide, h as usize, (wide + 7) / 8)
+}
+
+// Row 7: a cut, or the n of an erosion or opening, is above the largest.
+pub fn above_max(n: u32) -> bool
+    ensures { λ r. ⌜ r ≡ row7 n .1 ⌝ }
+{
+    MAX_SIDE < n
+}

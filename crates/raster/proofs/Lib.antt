@@ -1,0 +1,5 @@
+pub mod ByteLaws
+pub mod LoopLaws
+pub mod RowLaws
+pub mod PartLaws
+pub mod CountLaws

@@ -1,0 +1,214 @@
+-- A whole whose part, lent, has come back.
+use mathlib.Core.Path.{_∙_, _≡_, ap, ap₂, subst, sym}
+use mathlib.Core.Bool.{Bool, _&&_}
+use mathlib.Core.List.{List, [], _++_, append-assoc, append-nil}
+use Prim.Native.Nat.{_%_, _*_, _+_, _-_, _/_, _<_, _^_, _≤_, ℕ}
+use native.Mathlib.Decide.{decLt}
+use native.Mathlib.Nat.{add-assoc, zero-add}
+use native.Mathlib.Omega.{arith}
+use borrow.Author.Tests.{le-ltb, lt-ltb}
+use lib.Dec.{ltb}
+use lib.ListN.{List·getD-append, drop, getD, length, length-append, length-drop, length-set, set, take}
+use lib.Seq.{drop-at, drop-drop, drop-length, ext-getD, getD-append-add, getD-drop, getD-set-other, getD-set-same, getD-take, length-take-le, take-add, take-all, take-append-le, take-take}
+use Rattle.morphology.specs.Image.{bitOf}
+use Rattle.raster.specs.Rows.{Pixelwise, RowIs, RowJoined, join, overwrite, rowBit}
+use Rattle.raster.proofs.ByteLaws.{and-true, cleared-bit}
+use Rattle.raster.proofs.RowLaws.{rowBit-same}
+
+-- new is old but for the k elements from a, which are ys
+pub record PartIs (a k : ℕ) (old ys new : List ℕ) : Type 0 where
+  pub size : length new ≡ length old
+  pub within : (j : ℕ) → j < k → getD new (a + j) 0 ≡ getD ys j 0
+  pub before : (j : ℕ) → j < a → getD new j 0 ≡ getD old j 0
+  pub after : (j : ℕ) → a + k ≤ j → getD new j 0 ≡ getD old j 0
+
+-- an element of a list after another
+getD-right : (xs ys : List ℕ) (n : ℕ) → length xs ≤ n → getD (xs ++ ys) n 0 ≡ getD ys (n - length xs) 0
+getD-right xs ys n h = ap (λ (m : ℕ). getD (xs ++ ys) m 0) (omega arith) ∙ getD-append-add xs ys (n - length xs) 0
+
+pub part-back : (a k : ℕ) (old ys : List ℕ) → a + k ≤ length old → length ys ≡ k → PartIs a k old ys (take a old ++ (ys ++ drop k (drop a old)))
+part-back a k old ys h e =
+    let ht : length (take a old) ≡ a = length-take-le a old (omega arith) in
+    let rest : List ℕ = ys ++ drop k (drop a old) in
+    let right : (n : ℕ) → a ≤ n → getD (take a old ++ rest) n 0 ≡ getD rest (n - a) 0 =
+    (λ n l. getD-right (take a old) rest n (omega arith) ∙ ap (λ (m : ℕ). getD rest (n - m) 0) ht) in
+    record {
+      size = simp (length-append, length-drop) (omega (arith, ht, e));
+      within = λ j l. right (a + j) (omega arith) ∙ ap (λ (m : ℕ). getD rest m 0) (omega arith) ∙ List·getD-append ys (drop k (drop a old)) 0 j (omega arith);
+      before = λ j l. List·getD-append (take a old) rest 0 j (omega arith) ∙ getD-take a old j 0 l;
+      after = λ j l.
+          right j (omega arith) ∙ getD-right ys (drop k (drop a old)) (j - a) (omega arith)
+          ∙ getD-drop k (drop a old) (j - a - length ys) 0 ∙ getD-drop a old (k + (j - a - length ys)) 0
+          ∙ ap (λ (m : ℕ). getD old m 0) (omega arith);
+    }
+
+-- ---- written over
+
+-- a part of k elements, lent and back
+pub put-back : (a k : ℕ) (old ys : List ℕ) → length ys ≡ k → take a old ++ (ys ++ drop k (drop a old)) ≡ overwrite a ys old
+unfolding overwrite
+put-back a k old ys e =
+    ap (λ (l : List ℕ). take a old ++ (ys ++ l)) (drop-drop k a old ∙ ap (λ (n : ℕ). drop (a + n) old) (sym e))
+
+pub part-overwrite : (a k : ℕ) (old ys : List ℕ) → length ys ≡ k → a + k ≤ length old → PartIs a k old ys (overwrite a ys old)
+part-overwrite a k old ys e h = subst (PartIs a k old ys) (put-back a k old ys e) (part-back a k old ys h e)
+
+pub overwrite-is : (a k : ℕ) (old ys new : List ℕ) → length ys ≡ k → a + k ≤ length old → PartIs a k old ys new → new ≡ overwrite a ys old
+overwrite-is a k old ys new e h p =
+    ext-getD 0 new (overwrite a ys old) (p .size ∙ sym (q .size)) (λ j l. by j (decLt j a) (decLt j (a + k)))
+  where
+    q : PartIs a k old ys (overwrite a ys old)
+    q = part-overwrite a k old ys e h
+
+    by : (j : ℕ) → Dec (j < a) → Dec (j < a + k) → getD new j 0 ≡ getD (overwrite a ys old) j 0
+    by j (yes u) v = p .before j u ∙ sym (q .before j u)
+    by j (no u) (yes v) =
+        let z : a + (j - a) ≡ j = omega arith in
+        ap (λ (i : ℕ). getD new i 0) (sym z) ∙ p .within (j - a) (omega arith) ∙ sym (q .within (j - a) (omega arith)) ∙ ap (λ (i : ℕ). getD (overwrite a ys old) i 0) z
+    by j (no u) (no v) = p .after j (omega arith) ∙ sym (q .after j (omega arith))
+
+pub length-overwrite : (a k : ℕ) (old ys : List ℕ) → length ys ≡ k → a + k ≤ length old → length (overwrite a ys old) ≡ length old
+length-overwrite a k old ys e h = part-overwrite a k old ys e h .size
+
+-- a list written over whole
+pub overwrite-all : (ys old : List ℕ) → length ys ≡ length old → overwrite 0 ys old ≡ ys
+unfolding overwrite
+overwrite-all ys old e = ap (λ (l : List ℕ). ys ++ l) (ap (λ (n : ℕ). drop n old) (zero-add (length ys) ∙ e) ∙ drop-length old) ∙ append-nil ys
+
+-- what stands before and after
+pub take-overwrite : (n a k : ℕ) (old ys : List ℕ) → length ys ≡ k → a + k ≤ length old → n ≤ a → take n (overwrite a ys old) ≡ take n old
+unfolding overwrite
+take-overwrite n a k old ys e h l =
+    take-append-le n (take a old) (ys ++ drop (a + length ys) old) (omega (arith, length-take-le a old (omega arith))) ∙ take-take n a old l
+
+pub drop-overwrite : (a k : ℕ) (old ys : List ℕ) → length ys ≡ k → a + k ≤ length old → drop a (overwrite a ys old) ≡ ys ++ drop (a + k) old
+unfolding overwrite
+drop-overwrite a k old ys e h =
+    drop-at (take a old) (ys ++ drop (a + length ys) old) a (length-take-le a old (omega arith)) ∙ ap (λ (n : ℕ). ys ++ drop (a + n) old) e
+
+pub drop-past : (n a k : ℕ) (old ys : List ℕ) → length ys ≡ k → a + k ≤ length old → a + k ≤ n → drop n (overwrite a ys old) ≡ drop n old
+drop-past n a k old ys e h l =
+    let z : n ≡ a + (n - a) = omega arith in
+    let w : n - a ≡ k + (n - a - k) = omega arith in
+    let v : (a + k) + (n - a - k) ≡ n = omega arith in
+    ap (λ (i : ℕ). drop i (overwrite a ys old)) z ∙ sym (drop-drop (n - a) a (overwrite a ys old)) ∙ ap (drop (n - a)) (drop-overwrite a k old ys e h)
+    ∙ ap (λ (i : ℕ). drop i (ys ++ drop (a + k) old)) w ∙ sym (drop-drop (n - a - k) k (ys ++ drop (a + k) old))
+    ∙ ap (drop (n - a - k)) (drop-at ys (drop (a + k) old) k e) ∙ drop-drop (n - a - k) (a + k) old ∙ ap (λ (i : ℕ). drop i old) v
+
+-- the rest of a list from p on, lent, written over at a, and back
+pub overwrite-rest : (p j a k : ℕ) (old ys : List ℕ) → p ≤ length old → j ≡ length old - p → length ys ≡ k → p + a + k ≤ length old
+    → take p old ++ (overwrite a ys (take j (drop p old)) ++ drop j (drop p old)) ≡ overwrite (p + a) ys old
+unfolding overwrite
+overwrite-rest p j a k old ys hp ej e h =
+    let u = drop p old in
+    let lu : length u ≡ length old - p = length-drop p old in
+    let w : take j u ≡ u = take-all j u (omega arith) in
+    let d : drop j u ≡ [] = ap (λ (n : ℕ). drop n u) (ej ∙ sym lu) ∙ drop-length u in
+    ap₂ (λ (x y : List ℕ). take p old ++ ((take a x ++ (ys ++ drop (a + length ys) x)) ++ y)) w d
+    ∙ ap (λ (l : List ℕ). take p old ++ l) (append-nil (take a u ++ (ys ++ drop (a + length ys) u)))
+    ∙ sym (append-assoc (take p old) (take a u) (ys ++ drop (a + length ys) u))
+    ∙ ap₂ (λ (x y : List ℕ). x ++ (ys ++ y)) (sym (take-add p a old)) (drop-drop (a + length ys) p old ∙ ap (λ (n : ℕ). drop n old) (sym (add-assoc p a (length ys))))
+
+-- pixels of a part
+pub part-bit : {a k : ℕ} {old ys new : List ℕ} → PartIs a k old ys new → (x : ℕ) → x < 8 * k → rowBit new (8 * a + x) ≡ rowBit ys x
+unfolding rowBit
+part-bit {a} {k} {old} {ys} {new} p x h =
+    let e : (8 * a + x) / 8 ≡ a + x / 8 = omega arith in
+    let m : (8 * a + x) % 8 ≡ x % 8 = omega arith in
+    ap₂ (λ (q k : ℕ). bitOf (getD new q 0) k) e m ∙ ap (λ (n : ℕ). bitOf n (x % 8)) (p .within (x / 8) (omega arith))
+
+pub cut-bit : (a k : ℕ) (l : List ℕ) (x : ℕ) → x < 8 * k → rowBit (take k (drop a l)) x ≡ rowBit l (8 * a + x)
+unfolding rowBit
+cut-bit a k l x h =
+    let e : (8 * a + x) / 8 ≡ a + x / 8 = omega arith in
+    let m : (8 * a + x) % 8 ≡ x % 8 = omega arith in
+    ap (λ (n : ℕ). bitOf n (x % 8)) (getD-take k (drop a l) (x / 8) 0 (omega arith) ∙ getD-drop a l (x / 8) 0)
+    ∙ sym (ap₂ (λ (q k : ℕ). bitOf (getD l q 0) k) e m)
+
+pub row-same : {d r : ℕ} {old new : List ℕ} {g g′ : ℕ → Bool} → RowIs d r old new g → ((x : ℕ) → x < 8 * r → g x ≡ g′ x) → RowIs d r old new g′
+row-same p e = record { size = p .size; before = p .before; after = p .after; pixels = λ x l. p .pixels x l ∙ e x l }
+
+-- the pixels of a row, lent as a part of k = r bytes and back
+pub row-part : (d r k : ℕ) (old ys : List ℕ) (g : ℕ → Bool) → k ≡ r → d + r ≤ length old → length ys ≡ k → ((x : ℕ) → x < 8 * r → rowBit ys x ≡ g x)
+    → RowIs d r old (take d old ++ (ys ++ drop k (drop d old))) g
+row-part d r k old ys g e h len m =
+    let p : PartIs d k old ys (take d old ++ (ys ++ drop k (drop d old))) = part-back d k old ys (omega arith) len in
+    record {
+      size = p .size;
+      before = p .before;
+      after = λ j l. p .after j (omega arith);
+      pixels = λ x l. part-bit p x (omega arith) ∙ m x l;
+    }
+
+-- f joined to a row, lent as a part of k = r bytes and back
+pub joined-part : (t : Bool) (d r k : ℕ) (old ys : List ℕ) (f : ℕ → Bool) → k ≡ r → d + r ≤ length old → RowJoined t (take k (drop d old)) ys f
+    → RowIs d r old (take d old ++ (ys ++ drop k (drop d old))) (λ x. join t (rowBit old (8 * d + x)) (f x))
+joined-part t d r k old ys f e h m =
+    let cut : length (take k (drop d old)) ≡ k = length-take-le k (drop d old) (omega (arith, length-drop d old)) in
+    row-part d r k old ys (λ x. join t (rowBit old (8 * d + x)) (f x)) e h (m .size ∙ cut)
+    (λ x l. m .pixels x (omega arith) ∙ ap (λ (b : Bool). join t b (f x)) (cut-bit d k old x (omega arith)))
+
+-- a row of a plane, the plane of k bytes lent from the middle of work and back
+pub lift : (p k at r : ℕ) (work ys : List ℕ) (g : ℕ → Bool) → p + k ≤ length work → at + r ≤ k → RowIs at r (take k (drop p work)) ys g
+    → RowIs (p + at) r work (take p work ++ (ys ++ drop k (drop p work))) g
+lift p k at r work ys g h l m =
+    let cut : length (take k (drop p work)) ≡ k = length-take-le k (drop p work) (omega (arith, length-drop p work)) in
+    let new : List ℕ = take p work ++ (ys ++ drop k (drop p work)) in
+    let q : PartIs p k work ys new = part-back p k work ys h (m .size ∙ cut) in
+    let within : (i : ℕ) → i < k → getD (take k (drop p work)) i 0 ≡ getD work (p + i) 0 = (λ i z. getD-take k (drop p work) i 0 z ∙ getD-drop p work i 0) in
+    let at-i : (j : ℕ) → p ≤ j → j < p + k → getD ys (j - p) 0 ≡ getD (take k (drop p work)) (j - p) 0 → getD new j 0 ≡ getD work j 0 =
+    (λ j a b e.
+    let z : p + (j - p) ≡ j = omega arith in
+    ap (λ (n : ℕ). getD new n 0) (sym z) ∙ q .within (j - p) (omega arith) ∙ e ∙ within (j - p) (omega arith) ∙ ap (λ (n : ℕ). getD work n 0) z) in
+    record {
+      size = q .size;
+      before = λ j i. either (decLt j p) (λ a. q .before j a) (λ a. at-i j a (omega arith) (m .before (j - p) (omega arith)));
+      after = λ j i. either (decLt j (p + k)) (λ a. at-i j (omega arith) a (m .after (j - p) (omega arith))) (λ a. q .after j a);
+      pixels = λ x i.
+          let z : 8 * (p + at) + x ≡ 8 * p + (8 * at + x) = omega arith in
+          ap (rowBit new) z ∙ part-bit q (8 * at + x) (omega arith) ∙ m .pixels x i;
+    }
+  where
+    either : {a b : ℕ} {C : Type 0} → Dec (a < b) → (a < b → C) → (b ≤ a → C) → C
+    either (yes z) f g = f z
+    either (no z) f g = g (omega arith)
+
+-- ---- padding
+
+ltb-iff : (a b c d : ℕ) → (a < b → c < d) → (c < d → a < b) → ltb a b ≡ ltb c d
+ltb-iff a b c d f g = by (decLt a b)
+  where
+    by : Dec (a < b) → ltb a b ≡ ltb c d
+    by (yes l) = lt-ltb a b l ∙ sym (lt-ltb c d (f l))
+    by (no l) = let m : d ≤ c = not-below (λ h. l (g h)) in le-ltb a b (omega arith) ∙ sym (le-ltb c d m)
+      where
+        not-below : (c < d → ⊥) → d ≤ c
+        not-below n = go (decLt c d)
+          where
+            go : Dec (c < d) → d ≤ c
+            go (yes h) = absurd (n h)
+            go (no h) = omega arith
+
+-- the last byte of a row with its lowest 8 r - w bits cleared
+pub padding-row : (w k : ℕ) (old : List ℕ) → k ≡ length old * 8 - w → w ≤ 8 * length old → 8 * length old < w + 8 → 0 < length old
+    → getD old (length old - 1) 0 < 256
+    → Pixelwise old (set old (length old - 1) ((getD old (length old - 1) 0 / 2 ^ k * 2 ^ k) % 2 ^ 8)) (λ x b. b && ltb x w)
+unfolding rowBit
+padding-row w k old ek hw hr h0 hv = record { size = length-set old last v; pixels = λ x l. by x l (decLt (x / 8) last) }
+  where
+    last : ℕ
+    last = length old - 1
+
+    v : ℕ
+    v = (getD old last 0 / 2 ^ k * 2 ^ k) % 2 ^ 8
+
+    by : (x : ℕ) → x < 8 * length old → Dec (x / 8 < last) → rowBit (set old last v) x ≡ (rowBit old x && ltb x w)
+    by x l (yes m) =
+        rowBit-same (set old last v) old x (getD-set-other old last (x / 8) v 0 (λ e. omega arith))
+        ∙ and-true (rowBit old x) ∙ ap (λ (b : Bool). rowBit old x && b) (sym (lt-ltb x w (omega arith)))
+    by x l (no m) =
+        let q : x / 8 ≡ last = omega arith in
+        ap (λ (i : ℕ). bitOf (getD (set old last v) i 0) (x % 8)) q
+        ∙ ap (λ (n : ℕ). bitOf n (x % 8)) (getD-set-same old last v 0 (omega arith))
+        ∙ cleared-bit (getD old last 0) k (x % 8) hv (omega arith) (omega arith)
+        ∙ ap₂ _&&_ (sym (ap (λ (i : ℕ). bitOf (getD old i 0) (x % 8)) q)) (ltb-iff (x % 8) (8 - k) x w (λ z. omega arith) (λ z. omega arith))

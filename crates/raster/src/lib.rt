@@ -1,0 +1,162 @@
+ghost use mathlib.Core.Path.{_≡_};
+ghost use mathlib.Core.Bool.{_&&_, not};
+ghost use mathlib.Core.List.{_++_};
+ghost use Prim.Native.Nat.{_+_, _*_, _<_, _≤_, _^_};
+ghost use lib.Dec.{ltb, eqb};
+ghost use lib.ListN.{length, getD, replicate, take, drop};
+ghost use Rattle.morphology.specs.Image.{stride, isClean, onesOf, pixel as pixelOf};
+ghost use Rattle.morphology.specs.Lists.{any, all, upTo};
+ghost use Rattle.raster.specs.Rows.{rowBit, joinByte, Pixelwise, RowJoined};
+
+// Two bytes joined pixel by pixel: by or in a dilation, by and in an erosion.
+fn join(dilating: bool, a: u8, b: u8) -> u8
+    ensures { λ r. ⌜ r ≡ joinByte dilating a b ⌝ }
+{
+    if dilating {
+        return a | b;
+    }
+    a & b
+}
+
+// Joins pixel x + s of buf to each pixel x of dst.
+pub fn join_row(dilating: bool, buf: &[u8], s: u32, dst: &mut [u8])
+    requires { ⌜ (s < 16) × (length (now dst) + 2 ≤ length (now buf)) ⌝ }
+    ensures { λ _. ⌜ RowJoined dilating (now (dst .entry)) (now (dst .exit)) (λ x. rowBit (now (buf .entry)) (x + s)) ⌝ }
+{
+    let n = dst.len();
+    let o = (s / 8) as usize;
+    let d = s % 8;
+    let e = 7 - d;
+    let mut i: usize = 0;
+    while i < n {
+        dst[i] = join(
+            dilating,
+            dst[i],
+            (buf[o + i] << d) | (buf[o + i + 1] >> e >> 1),
+        );
+        i = i + 1;
+    }
+}
+
+// Clears the padding of a row: its pixels from w on.
+pub fn clear_padding(row: &mut [u8], w: usize)
+    requires { ⌜ (w ≤ 8 * length (now row)) × (8 * length (now row) < w + 8) × (0 < length (now row)) × (length (now row) ≤ 128) ⌝ }
+    ensures { λ _. ⌜ Pixelwise (now (row .entry)) (now (row .exit)) (λ x b. b && ltb x w) ⌝ }
+{
+    let last = row.len() - 1;
+    let k = (row.len() * 8 - w) as u32;
+    row[last] = row[last] >> k << k;
+}
+
+// Whether pixel x of row y, of rows of r bytes, is foreground.
+pub fn pixel(s: &[u8], r: usize, w: usize, x: usize, y: usize) -> bool
+    requires { ⌜ (r ≡ stride w) × (y * r + r ≤ length (now s)) × (x < w) ⌝ }
+    ensures { λ b. ⌜ b ≡ pixelOf w (now (s .entry)) x y ⌝ }
+{
+    let k = (7 - x % 8) as u32;
+    (s[y * r + x / 8] >> k) % 2 == 1
+}
+
+// Each byte of dst becomes v.
+pub fn fill(dst: &mut [u8], v: u8)
+    ensures { λ _. ⌜ now (dst .exit) ≡ replicate (length (now (dst .entry))) v ⌝ }
+{
+    let mut i: usize = 0;
+    while i < dst.len() {
+        dst[i] = v;
+        i = i + 1;
+    }
+}
+
+// dst becomes src.
+pub fn copy(src: &[u8], dst: &mut [u8])
+    requires { ⌜ length (now src) ≡ length (now dst) ⌝ }
+    ensures { λ _. ⌜ now (dst .exit) ≡ now (src .entry) ⌝ }
+{
+    let mut i: usize = 0;
+    while i < dst.len() {
+        dst[i] = src[i];
+        i = i + 1;
+    }
+}
+
+// The n bytes at p copied over the first n.
+pub fn copy_down(work: &mut [u8], p: usize, n: usize)
+    requires { ⌜ (n ≤ p) × (p + n ≤ length (now work)) ⌝ }
+    ensures { λ _. ⌜ now (work .exit) ≡ take n (drop p (now (work .entry))) ++ drop n (now (work .entry)) ⌝ }
+{
+    let mut i: usize = 0;
+    while i < n {
+        work[i] = work[p + i];
+        i = i + 1;
+    }
+}
+
+// Takes the foreground of src out of dst.
+pub fn subtract(src: &[u8], dst: &mut [u8])
+    requires { ⌜ length (now src) ≡ length (now dst) ⌝ }
+    ensures { λ _. ⌜ Pixelwise (now (dst .entry)) (now (dst .exit)) (λ x b. b && not (rowBit (now (src .entry)) x)) ⌝ }
+{
+    let mut i: usize = 0;
+    while i < dst.len() {
+        dst[i] = dst[i] & (src[i] ^ 255);
+        i = i + 1;
+    }
+}
+
+// The number of ones in the bytes of s.
+pub fn count_ones(s: &[u8]) -> u32
+    requires { ⌜ length (now s) < 2 ^ 20 ⌝ }
+    ensures { λ r. ⌜ r ≡ onesOf (now (s .entry)) ⌝ }
+{
+    let mut n: u32 = 0;
+    let mut i: usize = 0;
+    while i < s.len() {
+        n = n + u8::count_ones(s[i]);
+        i = i + 1;
+    }
+    n
+}
+
+// Whether a byte of s is not 0.
+pub fn has_ink(s: &[u8]) -> bool
+    ensures { λ r. ⌜ r ≡ any (λ b. not (eqb b 0)) (now (s .entry)) ⌝ }
+{
+    let mut seen: u8 = 0;
+    let mut i: usize = 0;
+    while i < s.len() {
+        seen = seen | s[i];
+        i = i + 1;
+    }
+    seen != 0
+}
+
+// Whether two rows of r bytes of a plane, at a and at b, are the same.
+pub fn same_rows(plane: &[u8], a: usize, b: usize, r: usize) -> bool
+    requires { ⌜ (a + r ≤ length (now plane)) × (b + r ≤ length (now plane)) ⌝ }
+    ensures { λ s. ⌜ s ≡ all (λ i. eqb (getD (now (plane .entry)) (a + i) 0) (getD (now (plane .entry)) (b + i) 0)) (upTo r) ⌝ }
+{
+    let mut differ: u8 = 0;
+    let mut i: usize = 0;
+    while i < r {
+        differ = differ | (plane[a + i] ^ plane[b + i]);
+        i = i + 1;
+    }
+    differ == 0
+}
+
+// Whether an image of h rows of r bytes has no 1 in its padding.
+pub fn is_clean(s: &[u8], w: usize, h: usize, r: usize) -> bool
+    requires { ⌜ (r ≡ stride w) × (h * r ≤ length (now s)) × (1 ≤ w) × (w ≤ 1024) ⌝ }
+    ensures { λ b. ⌜ b ≡ isClean w h (now (s .entry)) ⌝ }
+{
+    let m = 1u8 << ((r * 8 - w) as u32);
+    let mut y: usize = 0;
+    while y < h {
+        if s[y * r + (r - 1)] % m != 0 {
+            return false;
+        }
+        y = y + 1;
+    }
+    true
+}

@@ -1,0 +1,58 @@
+-- `skeleton::open` meets its contract.
+use mathlib.Core.Path.{_∙_, sym}
+use borrow.Author.Needs.{needs}
+use denote.Ref.{now}
+use Rattle.morphology.specs.Element.{offsets}
+use Rattle.morphology.specs.Image.{imageSet}
+use Rattle.morphology.specs.Morphology.{opening, times}
+use Rattle.morphology.specs.Operations.{foldRows, opened}
+use Rattle.skeleton.proofs.FoldLaws.{fold-ready, writes-done, writes-refused}
+use Rattle.skeleton.proofs.open.Statement.{statement}
+use Rattle.skeleton.proofs.open.Tie as tie
+
+fold-refusal-requires : tie.Need-fold-refusal-requires
+fold-refusal-requires c κs = search needs
+
+same-length : tie.Need-same-length
+same-length c = search needs
+
+same-length-2 : tie.Need-same-length-2
+same-length-2 c = search needs
+
+returns : tie.Need-returns
+unfolding opened
+returns c =
+    let a = c .before .before .before .before .before .before .before .args in
+    writes-refused (foldRows (a .w) (a .h) (a .element) (a .n) (now (a .image)) (now (a .out)) (now (a .work))) (a .w) (a .h) (opening (times (offsets (a .element)) (a .n)) (imageSet (a .w) (a .h) (now (a .image)))) (now (a .out)) (now (a .work)) _
+    (c .before .fold-refusal .ensures) (c .if1 .taken)
+
+open-into-requires : tie.Need-open-into-requires
+open-into-requires c κs =
+    let a = c .before .before .before .before .before .before .before .before .before .args in
+    fold-ready (a .w) (a .h) (a .element) (a .n) (now (a .image)) (now (a .out)) (now (a .work)) (sym (c .before .before .before .fold-refusal .ensures) ∙ c .before .before .if1 .left)
+
+same-length-3 : tie.Need-same-length-3
+same-length-3 c = search needs
+
+same-length-4 : tie.Need-same-length-4
+same-length-4 c = search needs
+
+returns-2 : tie.Need-returns-2
+unfolding opened
+returns-2 c =
+    let a = c .before .before .before .before .before .before .before .before .before .before .before .before .before .before .args in
+    writes-done (foldRows (a .w) (a .h) (a .element) (a .n) (now (a .image)) (now (a .out)) (now (a .work))) (a .w) (a .h) (opening (times (offsets (a .element)) (a .n)) (imageSet (a .w) (a .h) (now (a .image)))) (now (a .out)) (now (a .work)) _ _ _ _
+    (c .before .before .before .before .before .before .before .before .fold-refusal .ensures) (c .before .before .before .before .before .before .before .if1 .left) (c .before .before .before .before .open-into .ensures)
+
+pub open-spec : {M : Type 1} → statement M
+open-spec =
+    tie.close
+    (tie.spec
+    fold-refusal-requires
+    same-length
+    same-length-2
+    returns
+    open-into-requires
+    same-length-3
+    same-length-4
+    returns-2)

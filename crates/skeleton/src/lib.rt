@@ -1,0 +1,186 @@
+ghost use mathlib.Core.Path.{_≡_};
+ghost use mathlib.Core.List.{[], _∷_};
+ghost use Prim.Native.Nat.{_*_, _<_, _≤_, _^_};
+ghost use lib.Dec.{T};
+ghost use lib.ListN.{length, take};
+ghost use Rattle.morphology.specs.Answers.{outcome};
+ghost use Rattle.morphology.specs.Element.{offsets, isElement};
+ghost use Rattle.morphology.specs.Image.{imageSet, isClean, clip};
+ghost use Rattle.morphology.specs.Morphology.{erode as erodeSet, dilate as dilateSet, opening, times};
+ghost use Rattle.morphology.specs.Operations.{eroded, opened, foldRows};
+ghost use Rattle.morphology.specs.Refusals.{firstRefusal};
+ghost use Rattle.skeleton.specs.Steps.{Sheet, First, HandedOut, Wrote, Ready, dilated};
+ghost use Rattle.skeleton.specs.Written.{answerOf};
+
+// The answer of an operation that writes an image.
+pub enum Written {
+    Refused(u8),
+    Area(u32),
+}
+
+// The first plane eroded in place, by way of the second.
+fn erode_step(w: usize, h: usize, r: usize, p: usize, element: u32, work: &mut [u8])
+    requires { ⌜ Sheet w h r p × (2 * p ≤ length (now work)) × T (isElement element) × T (isClean w h (now work)) ⌝ }
+    ensures { λ _. ⌜ First w h p (erodeSet (offsets element) (imageSet w h (now (work .entry)))) (now (work .entry)) (now (work .exit)) ⌝ }
+{
+    planes::erode_plane(w, h, r, p, element, work);
+    raster::copy_down(work, p, p);
+}
+
+// The first plane dilated in place, by way of the second, and clipped at the frame.
+fn dilate_step(w: usize, h: usize, r: usize, p: usize, element: u32, work: &mut [u8])
+    requires { ⌜ Sheet w h r p × (2 * p ≤ length (now work)) × T (isClean w h (now work)) ⌝ }
+    ensures { λ _. ⌜ First w h p (clip w h (dilateSet (offsets element) (imageSet w h (now (work .entry))))) (now (work .entry)) (now (work .exit)) ⌝ }
+{
+    planes::dilate_plane(w, h, r, p, element, work);
+    raster::copy_down(work, p, p);
+}
+
+// The first plane eroded n times in place; no more once it is empty.
+fn erode_times(w: usize, h: usize, r: usize, p: usize, element: u32, n: u32, work: &mut [u8])
+    requires { ⌜ Sheet w h r p × (2 * p ≤ length (now work)) × T (isElement element) × T (isClean w h (now work)) ⌝ }
+    ensures { λ _. ⌜ First w h p (erodeSet (times (offsets element) n) (imageSet w h (now (work .entry)))) (now (work .entry)) (now (work .exit)) ⌝ }
+{
+    let mut i: u32 = 0;
+    while i < n {
+        if !raster::has_ink(&work[..p]) {
+            return;
+        }
+        erode_step(w, h, r, p, element, work);
+        i = i + 1;
+    }
+}
+
+// The first plane dilated n times in place; not at all where it is empty.
+fn dilate_times(w: usize, h: usize, r: usize, p: usize, element: u32, n: u32, work: &mut [u8])
+    requires { ⌜ Sheet w h r p × (2 * p ≤ length (now work)) × T (isClean w h (now work)) ⌝ }
+    ensures { λ _. ⌜ First w h p (dilated w h (offsets element) n (imageSet w h (now (work .entry)))) (now (work .entry)) (now (work .exit)) ⌝ }
+{
+    if !raster::has_ink(&work[..p]) {
+        return;
+    }
+    let mut j: u32 = 0;
+    while j < n {
+        dilate_step(w, h, r, p, element, work);
+        j = j + 1;
+    }
+}
+
+// The first plane copied to out and counted, and three planes of work cleared.
+fn hand_out(p: usize, out: &mut [u8], work: &mut [u8]) -> u32
+    requires { ⌜ (3 * p ≤ length (now work)) × (length (now out) ≡ p) × (p < 2 ^ 20) ⌝ }
+    ensures { λ n. ⌜ HandedOut p (take p (now (work .entry))) n (now (out .exit)) (now (work .entry)) (now (work .exit)) ⌝ }
+{
+    raster::copy(&work[..p], out);
+    raster::fill(&mut work[..3 * p], 0);
+    raster::count_ones(&out[..])
+}
+
+// The first row of the table of refusals that applies to an erosion or opening; 0 if there is none.
+fn fold_refusal(w: u32, h: u32, element: u32, n: u32, image: &[u8], out: &[u8], work: &[u8]) -> u8
+    ensures { λ r. ⌜ r ≡ firstRefusal (foldRows w h element n (now (image .entry)) (now (out .entry)) (now (work .entry))) ⌝ }
+{
+    if planes::refusals::bad_sides(w, h) {
+        return 1;
+    }
+    if planes::refusals::bad_element(element) {
+        return 2;
+    }
+    if planes::refusals::not_plane(w, h, image) {
+        return 3;
+    }
+    if planes::refusals::not_plane(w, h, out) {
+        return 3;
+    }
+    if planes::refusals::short_work(w, h, work) {
+        return 3;
+    }
+    if planes::refusals::bad_padding(w, h, image) {
+        return 4;
+    }
+    if planes::refusals::above_max(n) {
+        return 7;
+    }
+    0
+}
+
+// An image that is not refused, eroded n times into out.
+fn erode_into(
+    w: usize,
+    h: usize,
+    element: u32,
+    n: u32,
+    image: &[u8],
+    out: &mut [u8],
+    work: &mut [u8],
+) -> u32
+    requires { ⌜ Ready w h (now image) (now out) (now work) × T (isElement element) ⌝ }
+    ensures { λ a. ⌜ Wrote w h (erodeSet (times (offsets element) n) (imageSet w h (now (image .entry)))) a (now (out .exit)) (now (work .entry)) (now (work .exit)) ⌝ }
+{
+    let r = (w + 7) / 8;
+    let p = h * r;
+    raster::copy(image, &mut work[..p]);
+    erode_times(w, h, r, p, element, n, work);
+    hand_out(p, out, work)
+}
+
+// An image that is not refused, opened by the n-fold element into out.
+fn open_into(
+    w: usize,
+    h: usize,
+    element: u32,
+    n: u32,
+    image: &[u8],
+    out: &mut [u8],
+    work: &mut [u8],
+) -> u32
+    requires { ⌜ Ready w h (now image) (now out) (now work) × T (isElement element) ⌝ }
+    ensures { λ a. ⌜ Wrote w h (opening (times (offsets element) n) (imageSet w h (now (image .entry)))) a (now (out .exit)) (now (work .entry)) (now (work .exit)) ⌝ }
+{
+    let r = (w + 7) / 8;
+    let p = h * r;
+    raster::copy(image, &mut work[..p]);
+    erode_times(w, h, r, p, element, n, work);
+    dilate_times(w, h, r, p, element, n, work);
+    hand_out(p, out, work)
+}
+
+// Erosion by the n-fold element: from image into out.
+pub fn erode(
+    w: u32,
+    h: u32,
+    element: u32,
+    n: u32,
+    image: &[u8],
+    out: &mut [u8],
+    work: &mut [u8],
+) -> Written
+    ensures { λ r. ⌜ outcome (answerOf r) (now (out .exit) ∷ now (work .exit) ∷ []) ≡ eroded w h element n (now (image .entry)) (now (out .entry)) (now (work .entry)) ⌝ }
+{
+    let refusal = fold_refusal(w, h, element, n, image, &out[..], &work[..]);
+    if refusal != 0 {
+        return Written::Refused(refusal);
+    }
+    let area = erode_into(w as usize, h as usize, element, n, image, out, work);
+    Written::Area(area)
+}
+
+// Opening by the n-fold element: from image into out.
+pub fn open(
+    w: u32,
+    h: u32,
+    element: u32,
+    n: u32,
+    image: &[u8],
+    out: &mut [u8],
+    work: &mut [u8],
+) -> Written
+    ensures { λ r. ⌜ outcome (answerOf r) (now (out .exit) ∷ now (work .exit) ∷ []) ≡ opened w h element n (now (image .entry)) (now (out .entry)) (now (work .entry)) ⌝ }
+{
+    let number = fold_refusal(w, h, element, n, image, &out[..], &work[..]);
+    if number != 0 {
+        return Written::Refused(number);
+    }
+    let area = open_into(w as usize, h as usize, element, n, image, out, work);
+    Written::Area(area)
+}

@@ -1,0 +1,261 @@
+//! Seeded calls for comparison with another implementation: every seed is one call with all
+//! its arguments and lent buffers, and `run` says what must come of it.
+
+mod damage;
+mod sound;
+
+pub use damage::{Damage, DAMAGES};
+pub use sound::{cut_or_n, element, image, labels, mask, side};
+
+use crate::element::ORIGIN;
+use crate::frame::Frame;
+use crate::rng::Rng;
+use crate::{skeleton, Answer, SQUARE};
+use damage::damage;
+
+/// A call: the numbers, what is read, what is written, the work.
+#[derive(Clone, Debug, PartialEq)]
+pub enum Call {
+    Erode {
+        w: u32,
+        h: u32,
+        element: u32,
+        n: u32,
+        image: Vec<u8>,
+        out: Vec<u8>,
+        work: Vec<u8>,
+    },
+    Open {
+        w: u32,
+        h: u32,
+        element: u32,
+        n: u32,
+        image: Vec<u8>,
+        out: Vec<u8>,
+        work: Vec<u8>,
+    },
+    Decompose {
+        w: u32,
+        h: u32,
+        element: u32,
+        image: Vec<u8>,
+        labels: Vec<u8>,
+        work: Vec<u8>,
+    },
+    Reconstruct {
+        w: u32,
+        h: u32,
+        element: u32,
+        cut: u32,
+        labels: Vec<u8>,
+        image: Vec<u8>,
+        work: Vec<u8>,
+    },
+    Minimise {
+        w: u32,
+        h: u32,
+        element: u32,
+        labels: Vec<u8>,
+        work: Vec<u8>,
+        counters: Vec<u16>,
+    },
+    HitOrMiss {
+        w: u32,
+        h: u32,
+        fg: u32,
+        bg: u32,
+        image: Vec<u8>,
+        out: Vec<u8>,
+    },
+    Thin {
+        w: u32,
+        h: u32,
+        image: Vec<u8>,
+        work: Vec<u8>,
+    },
+}
+
+/// The answer to a call, and the same call with every lent buffer as it is afterwards.
+pub fn run(call: &Call) -> (Answer, Call) {
+    let mut after = call.clone();
+    #[rustfmt::skip]
+    let answer = match &mut after {
+        Call::Erode { w, h, element, n, image, out, work } =>
+            crate::erode(*w, *h, *element, *n, image, out, work),
+        Call::Open { w, h, element, n, image, out, work } =>
+            crate::open(*w, *h, *element, *n, image, out, work),
+        Call::Decompose { w, h, element, image, labels, work } =>
+            crate::decompose(*w, *h, *element, image, labels, work),
+        Call::Reconstruct { w, h, element, cut, labels, image, work } =>
+            crate::reconstruct(*w, *h, *element, *cut, labels, image, work),
+        Call::Minimise { w, h, element, labels, work, counters } =>
+            crate::minimise(*w, *h, *element, labels, work, counters),
+        Call::HitOrMiss { w, h, fg, bg, image, out } =>
+            crate::hit_or_miss(*w, *h, *fg, *bg, image, out),
+        Call::Thin { w, h, image, work } =>
+            crate::thin(*w, *h, image, work),
+    };
+    (answer, after)
+}
+
+/// The arguments of any call by their part in it; what a call does not have is empty.
+pub struct Parts<'a> {
+    pub w: &'a mut u32,
+    pub h: &'a mut u32,
+    pub element: Option<&'a mut u32>,
+    pub cut_or_n: Option<&'a mut u32>,
+    /// fg and bg.
+    pub mask: Option<(&'a mut u32, &'a mut u32)>,
+    /// The image that is read; thinning writes it as well.
+    pub read: Option<&'a mut Vec<u8>>,
+    /// The image that is only written.
+    pub written: Option<&'a mut Vec<u8>>,
+    pub labels: Option<&'a mut Vec<u8>>,
+    pub work: Option<&'a mut Vec<u8>>,
+    pub counters: Option<&'a mut Vec<u16>>,
+}
+
+impl Call {
+    pub fn parts(&mut self) -> Parts<'_> {
+        let none = |w, h| Parts {
+            w,
+            h,
+            element: None,
+            cut_or_n: None,
+            mask: None,
+            read: None,
+            written: None,
+            labels: None,
+            work: None,
+            counters: None,
+        };
+        #[rustfmt::skip]
+        let parts = match self {
+            Call::Erode { w, h, element, n, image, out, work }
+            | Call::Open { w, h, element, n, image, out, work } => Parts {
+                element: Some(element), cut_or_n: Some(n),
+                read: Some(image), written: Some(out), work: Some(work), ..none(w, h)
+            },
+            Call::Decompose { w, h, element, image, labels, work } => Parts {
+                element: Some(element),
+                read: Some(image), labels: Some(labels), work: Some(work), ..none(w, h)
+            },
+            Call::Reconstruct { w, h, element, cut, labels, image, work } => Parts {
+                element: Some(element), cut_or_n: Some(cut),
+                labels: Some(labels), written: Some(image), work: Some(work), ..none(w, h)
+            },
+            Call::Minimise { w, h, element, labels, work, counters } => Parts {
+                element: Some(element),
+                labels: Some(labels), work: Some(work), counters: Some(counters), ..none(w, h)
+            },
+            Call::HitOrMiss { w, h, fg, bg, image, out } => Parts {
+                mask: Some((fg, bg)), read: Some(image), written: Some(out), ..none(w, h)
+            },
+            Call::Thin { w, h, image, work } => Parts {
+                read: Some(image), work: Some(work), ..none(w, h)
+            },
+        };
+        parts
+    }
+}
+
+/// The call of a seed: sound, or with one or two of its arguments damaged. Labels may be wild
+/// and cuts too large in any case. What is only written, and the work, hold anything.
+pub fn call(seed: u64) -> Call {
+    let rng = &mut Rng::new(seed);
+    let mut call = sound_call(rng);
+    for _ in 0..rng.pick(&[0, 0, 0, 0, 1, 1, 2]) {
+        damage(rng, &mut call);
+    }
+    call
+}
+
+fn sound_call(rng: &mut Rng) -> Call {
+    let (w, h) = (side(rng), side(rng));
+    let frame = Frame::new(w, h).expect("sides from 1 to 255");
+    let element = element(rng);
+    let image = image(rng, w, h);
+    let skeleton = skeleton::decompose(&frame.unpack(&image), element);
+    let labels = labels(rng, w, h, element);
+    let written = rng.bytes(image.len());
+    let spare = rng.pick(&[0, 0, 1, 9]);
+    let work = rng.bytes(3 * image.len() + spare);
+    match rng.below(7) {
+        operation @ (0 | 1) => {
+            let (n, out) = (cut_or_n(rng, &skeleton), written);
+            #[rustfmt::skip]
+            let call = match operation {
+                0 => Call::Erode { w, h, element, n, image, out, work },
+                _ => Call::Open { w, h, element, n, image, out, work },
+            };
+            call
+        }
+        2 => Call::Decompose {
+            w,
+            h,
+            element,
+            image,
+            labels: rng.bytes(frame.pixels()),
+            work,
+        },
+        3 => Call::Reconstruct {
+            w,
+            h,
+            element,
+            cut: cut_or_n(rng, &labels),
+            labels,
+            image: written,
+            work,
+        },
+        4 => Call::Minimise {
+            w,
+            h,
+            element,
+            labels,
+            work,
+            counters: (0..frame.pixels()).map(|_| rng.number() as u16).collect(),
+        },
+        5 => {
+            let (fg, bg) = mask(rng);
+            Call::HitOrMiss {
+                w,
+                h,
+                fg,
+                bg,
+                image,
+                out: written,
+            }
+        }
+        _ => Call::Thin { w, h, image, work },
+    }
+}
+
+/// The standard input of a seed for the program: sound, or damaged in one or two places.
+pub fn input(seed: u64) -> Vec<u8> {
+    let rng = &mut Rng::new(seed);
+    let (w, h) = (side(rng), side(rng));
+    let mut input = vec![w as u8, h as u8];
+    input.extend(element(rng).to_le_bytes());
+    input.extend(image(rng, w, h));
+    for _ in 0..rng.pick(&[0, 0, 1, 2]) {
+        let whole = input.len() > 6;
+        match rng.below(7) {
+            0 => input.truncate(rng.below(6)),
+            1 => drop(input.pop()),
+            2 => input.push(b'\n'),
+            3 => input.extend(rng.bytes(3)),
+            4 if whole => input[rng.below(2)] = 0,
+            5 if whole => {
+                let element = rng.pick(&[0, ORIGIN, SQUARE | 1 << 25, SQUARE & !ORIGIN]);
+                input[2..6].copy_from_slice(&u32::to_le_bytes(element));
+            }
+            // Most often a padding bit.
+            _ => input
+                .iter_mut()
+                .last()
+                .into_iter()
+                .for_each(|byte| *byte |= 1),
+        }
+    }
+    input
+}

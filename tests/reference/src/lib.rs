@@ -1,0 +1,263 @@
+//! An independent second program for the rules of document 01. It works on unpacked sets of
+//! points and on distances, not on packed planes that are eroded and dilated step by step,
+//! and it is the judge in comparisons: for any arguments and any lengths it says the answer
+//! and every lent byte afterwards.
+
+pub mod cases;
+mod element;
+mod frame;
+mod refusal;
+pub mod rng;
+mod skeleton;
+mod thinning;
+
+pub use element::{LEFT, PLUS, RIGHT, ROUND, SQUARE};
+pub use thinning::GOLAY_L;
+
+use frame::{Frame, Set};
+use refusal::{accept, Arguments};
+
+/// What an operation answers.
+#[derive(Clone, Debug, PartialEq)]
+pub enum Answer {
+    /// The number of the refusal. No lent byte has changed.
+    Refused(u8),
+    /// The foreground points of the image written.
+    Area(u32),
+    /// The image decomposed was blank: no points, no largest size.
+    Blank,
+    /// The skeleton points and their largest size.
+    Skeleton { points: u32, max_size: u32 },
+    /// The points left in the minimal skeleton.
+    Minimal(u32),
+    /// The passes made, the idle one included, the points removed and those left.
+    Thinned {
+        passes: u32,
+        removed: u32,
+        area: u32,
+    },
+}
+
+use Answer::*;
+
+/// Writes a set into a lent image.
+fn write(frame: Frame, set: &Set, image: &mut [u8]) -> Answer {
+    image.copy_from_slice(&frame.pack(set));
+    Area(set.area())
+}
+
+/// Leaves the work buffer as after every success: 0 in the first 3P bytes.
+fn clear(frame: Frame, work: &mut [u8]) {
+    work[..3 * frame.plane_bytes()].fill(0);
+}
+
+/// The number of points in labels.
+fn points(labels: &[u8]) -> u32 {
+    labels.iter().filter(|&&label| label > 0).count() as u32
+}
+
+/// Erosion by nB.
+pub fn erode(
+    w: u32,
+    h: u32,
+    element: u32,
+    n: u32,
+    image: &[u8],
+    out: &mut [u8],
+    work: &mut [u8],
+) -> Answer {
+    erode_or_open(skeleton::erode, w, h, element, n, image, out, work)
+}
+
+/// Opening by nB.
+pub fn open(
+    w: u32,
+    h: u32,
+    element: u32,
+    n: u32,
+    image: &[u8],
+    out: &mut [u8],
+    work: &mut [u8],
+) -> Answer {
+    erode_or_open(skeleton::open, w, h, element, n, image, out, work)
+}
+
+#[allow(clippy::too_many_arguments)]
+fn erode_or_open(
+    operation: fn(&Set, u32, usize) -> Set,
+    w: u32,
+    h: u32,
+    element: u32,
+    n: u32,
+    image: &[u8],
+    out: &mut [u8],
+    work: &mut [u8],
+) -> Answer {
+    let arguments = Arguments {
+        w,
+        h,
+        element: Some(element),
+        images: &[image.len(), out.len()],
+        work: Some(work.len()),
+        read: Some(image),
+        cut_or_n: Some(n),
+        ..Arguments::default()
+    };
+    accept(&arguments).map_or_else(Refused, |frame| {
+        clear(frame, work);
+        let set = operation(&frame.unpack(image), element, n as usize);
+        write(frame, &set, out)
+    })
+}
+
+/// Skeleton decomposition ("taking apart").
+pub fn decompose(
+    w: u32,
+    h: u32,
+    element: u32,
+    image: &[u8],
+    labels: &mut [u8],
+    work: &mut [u8],
+) -> Answer {
+    let arguments = Arguments {
+        w,
+        h,
+        element: Some(element),
+        images: &[image.len()],
+        labels: Some(labels.len()),
+        work: Some(work.len()),
+        read: Some(image),
+        ..Arguments::default()
+    };
+    accept(&arguments).map_or_else(Refused, |frame| {
+        clear(frame, work);
+        labels.copy_from_slice(&skeleton::decompose(&frame.unpack(image), element));
+        match labels.iter().max() {
+            Some(&label) if label > 0 => Skeleton {
+                points: points(labels),
+                max_size: label as u32 - 1,
+            },
+            _ => Blank,
+        }
+    })
+}
+
+/// Partial reconstruction ("rebuilding at a cut").
+pub fn reconstruct(
+    w: u32,
+    h: u32,
+    element: u32,
+    cut: u32,
+    labels: &[u8],
+    image: &mut [u8],
+    work: &mut [u8],
+) -> Answer {
+    let arguments = Arguments {
+        w,
+        h,
+        element: Some(element),
+        images: &[image.len()],
+        labels: Some(labels.len()),
+        work: Some(work.len()),
+        kept: Some((labels, cut)),
+        cut_or_n: Some(cut),
+        ..Arguments::default()
+    };
+    accept(&arguments).map_or_else(Refused, |frame| {
+        clear(frame, work);
+        let set = skeleton::reconstruct(frame, element, cut, labels);
+        write(frame, &set, image)
+    })
+}
+
+/// The globally minimal skeleton ("shortening"), in place.
+pub fn minimise(
+    w: u32,
+    h: u32,
+    element: u32,
+    labels: &mut [u8],
+    work: &mut [u8],
+    counters: &mut [u16],
+) -> Answer {
+    let arguments = Arguments {
+        w,
+        h,
+        element: Some(element),
+        labels: Some(labels.len()),
+        work: Some(work.len()),
+        counters: Some(counters.len()),
+        kept: Some((&*labels, 0)),
+        ..Arguments::default()
+    };
+    accept(&arguments).map_or_else(Refused, |frame| {
+        clear(frame, work);
+        counters.fill(0);
+        labels.copy_from_slice(&skeleton::minimise(frame, element, labels));
+        Minimal(points(labels))
+    })
+}
+
+/// Hit-or-miss by one mask.
+pub fn hit_or_miss(w: u32, h: u32, fg: u32, bg: u32, image: &[u8], out: &mut [u8]) -> Answer {
+    let arguments = Arguments {
+        w,
+        h,
+        images: &[image.len(), out.len()],
+        read: Some(image),
+        mask: Some((fg, bg)),
+        ..Arguments::default()
+    };
+    accept(&arguments).map_or_else(Refused, |frame| {
+        let hits = thinning::hit_or_miss(&frame.unpack(image), fg, bg);
+        write(frame, &hits, out)
+    })
+}
+
+/// Thinning by the house set until a pass removes nothing, in place.
+pub fn thin(w: u32, h: u32, image: &mut [u8], work: &mut [u8]) -> Answer {
+    let arguments = Arguments {
+        w,
+        h,
+        images: &[image.len()],
+        work: Some(work.len()),
+        read: Some(image),
+        ..Arguments::default()
+    };
+    accept(&arguments).map_or_else(Refused, |frame| {
+        clear(frame, work);
+        let before = frame.unpack(image);
+        let (after, passes) = thinning::thin(before.clone());
+        write(frame, &after, image);
+        Thinned {
+            passes,
+            removed: before.area() - after.area(),
+            area: after.area(),
+        }
+    })
+}
+
+/// What the program prints for these bytes of standard input: a byte W, a byte H, the
+/// element lowest byte first, then the image.
+pub fn program(input: &[u8]) -> Vec<u8> {
+    let refused = |row: u8| format!("refused {row}\n").into_bytes();
+    let [w, h, e0, e1, e2, e3, image @ ..] = input else {
+        return refused(3);
+    };
+    let element = u32::from_le_bytes([*e0, *e1, *e2, *e3]);
+    let frame = Frame::new(*w as u32, *h as u32);
+    // Without a frame the call is refused by row 1, whatever it is lent.
+    let mut labels = vec![0; frame.map_or(0, Frame::pixels)];
+    let mut work = vec![0; frame.map_or(0, |f| 3 * f.plane_bytes())];
+    let answer = decompose(*w as u32, *h as u32, element, image, &mut labels, &mut work);
+    let (points, max_size) = match answer {
+        Refused(row) => return refused(row),
+        Skeleton { points, max_size } => (points, max_size.to_string()),
+        _ => (0, "-".to_string()),
+    };
+    let mut lines = vec![format!("{w} {h} {points} {max_size}\n")];
+    for row in labels.chunks(*w as usize) {
+        let numbers: Vec<String> = row.iter().map(u8::to_string).collect();
+        lines.push(numbers.join(" ") + "\n");
+    }
+    lines.concat().into_bytes()
+}
