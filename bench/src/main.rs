@@ -21,7 +21,13 @@ fn main() {
     #[cfg(feature = "decompose")]
     for (input, image) in images() {
         for (name, element) in ELEMENTS {
-            decompose_and_reconstruct([input, name], element, &image);
+            decompose([input, name], element, &image);
+        }
+    }
+    #[cfg(feature = "reconstruct")]
+    for (input, image) in images() {
+        for (name, element) in ELEMENTS {
+            reconstruct([input, name], element, &image);
         }
     }
     #[cfg(feature = "minimise")]
@@ -61,7 +67,7 @@ fn erode_and_open([input, name]: [&str; 2], element: u32, image: &[u8]) {
 }
 
 /// The labels of an image.
-#[cfg(any(feature = "decompose", feature = "minimise"))]
+#[cfg(any(feature = "reconstruct", feature = "minimise"))]
 fn labels(element: u32, image: &[u8]) -> Vec<u8> {
     let mut labels = vec![0; (SIDE * SIDE) as usize];
     let mut work = vec![0; 3 * image.len()];
@@ -72,16 +78,20 @@ fn labels(element: u32, image: &[u8]) -> Vec<u8> {
 
 #[cfg(feature = "decompose")]
 #[rustfmt::skip]
-fn decompose_and_reconstruct([input, name]: [&str; 2], element: u32, image: &[u8]) {
-    const CUTS: [u32; 3] = [0, 1, 8];
-    let labels = labels(element, image);
-    let read = Lent { labels: vec![0xa5; labels.len()], ..lent(image) };
-    compare(["decompose", input, name, ""], &read, false,
+fn decompose([input, name]: [&str; 2], element: u32, image: &[u8]) {
+    let lent = Lent { labels: vec![0xa5; (SIDE * SIDE) as usize], ..lent(image) };
+    compare(["decompose", input, name, ""], &lent, false,
         |l| Ok(baseline::decompose(SIDE, SIDE, element, &l.image, &mut l.labels, &mut l.work)?.points),
         |l| proved::decompose(SIDE, SIDE, element, &l.image, &mut l.labels, &mut l.work));
-    let written = Lent { labels, image: vec![0xa5; image.len()], ..lent(image) };
+}
+
+#[cfg(feature = "reconstruct")]
+#[rustfmt::skip]
+fn reconstruct([input, name]: [&str; 2], element: u32, image: &[u8]) {
+    const CUTS: [u32; 3] = [0, 1, 8];
+    let lent = Lent { labels: labels(element, image), image: vec![0xa5; image.len()], ..lent(image) };
     for cut in CUTS {
-        compare(["reconstruct", input, name, &cut.to_string()], &written, false,
+        compare(["reconstruct", input, name, &cut.to_string()], &lent, false,
             |l| baseline::reconstruct(SIDE, SIDE, element, cut, &l.labels, &mut l.image, &mut l.work),
             |l| proved::reconstruct(SIDE, SIDE, element, cut, &l.labels, &mut l.image, &mut l.work));
     }

@@ -18,7 +18,7 @@ extern "C" {
         w: u32, h: u32, element: u32,
         image: *const u8, image_len: usize, labels: *mut u8, labels_len: usize, work: *mut u8, work_len: usize,
     ) -> u32;
-    #[cfg(feature = "decompose")]
+    #[cfg(feature = "reconstruct")]
     fn time_reconstruct(
         w: u32, h: u32, element: u32, cut: u32,
         labels: *const u8, labels_len: usize, image: *mut u8, image_len: usize, work: *mut u8, work_len: usize,
@@ -66,7 +66,7 @@ pub fn decompose(w: u32, h: u32, element: u32, image: &[u8], labels: &mut [u8], 
     call!(time_decompose(w, h, element; image; labels, work))
 }
 
-#[cfg(feature = "decompose")]
+#[cfg(feature = "reconstruct")]
 #[rustfmt::skip]
 pub fn reconstruct(w: u32, h: u32, element: u32, cut: u32, labels: &[u8], image: &mut [u8], work: &mut [u8]) -> u32 {
     call!(time_reconstruct(w, h, element, cut; labels; image, work))

@@ -1,4 +1,6 @@
 pub mod NeighbourLaws
+pub mod ScatterLaws
+pub mod CentreLaws
 pub mod SetLaws
 pub mod PlaneLaws
 pub mod SideLaws

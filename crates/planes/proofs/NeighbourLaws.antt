@@ -4,7 +4,7 @@ use mathlib.Core.List.{List, _++_}
 use mathlib.Core.Path.{_∙_, _≡_, ap, ap₂, refl, subst, sym}
 use Prim.Native.Nat.{_%_, _*_, _+_, _-_, _/_, _<_, _^_, _≤_, suc, zero, ℕ}
 use native.Mathlib.Decide.{decLe, decLt}
-use native.Mathlib.Nat.{le-refl, not-suc-le-zero, suc-mul}
+use native.Mathlib.Nat.{le-refl}
 use native.Mathlib.Numerals.{add-one}
 use native.Mathlib.Omega.{arith}
 use borrow.Author.Tests.{eq-eqb, le-leb, le-ltb, lt-leb, lt-ltb, ne-eqb}
@@ -16,9 +16,9 @@ use Rattle.morphology.specs.Image.{bitOf}
 use Rattle.raster.specs.Rows.{Pixelwise, RowIs, RowJoined, join, rowBit}
 use Rattle.morphology.proofs.TestLaws.{and-l, and-r}
 use Rattle.raster.proofs.ByteLaws.{full-bit, zero-bit}
-use Rattle.raster.proofs.PartLaws.{PartIs, cut-bit, joined-part, part-back, part-bit, row-part, row-same}
+use Rattle.raster.proofs.PartLaws.{PartIs, cut-bit, part-back, part-bit, row-part}
 use Rattle.raster.proofs.RowLaws.{row-in, rowBit-same}
-use Rattle.planes.specs.Neighbours.{Margins, NearRow, RowsTo, fiveOf, isNear, joined, nearBit, neighbours, startByte, turned}
+use Rattle.planes.specs.Neighbours.{Margins, NearRow, fiveOf, isNear, joined, nearBit, startByte, turned}
 
 -- ---- joining
 
@@ -224,91 +224,7 @@ pub five-done : (t : Bool) (five : ℕ) (buf a b : List ℕ) (j : ℕ) → j ≡
 unfolding fiveOf
 five-done t five buf a b j e p = subst (λ (n : ℕ). RowJoined t a b (λ x. joined t n (bitAsks t five (rowBit buf) x))) e p
 
-pub five-near : (t : Bool) (five : ℕ) (plane b : List ℕ) (r h Y : ℕ) → NearRow plane r h Y b → (x : ℕ)
-    → fiveOf t five (rowBit b) x ≡ fiveOf t five (λ X. nearBit plane r h X Y) x
-five-near t five plane b r h Y n x = λ i. fiveOf t five (λ X. n .pixels X i) x
-
--- ---- the whole element
-
--- what the first k rows of the element ask
-abbrev pub rowsAsk : Bool → ℕ → (ℕ → ℕ → Bool) → ℕ → ℕ → ℕ → Bool
-rowsAsk t e near y k x = joined t k (λ k. fiveOf t (e / 2 ^ (k * 5)) (λ X. near X (y + turned t k)) x)
-
-pub rows-none : (t : Bool) (d r : ℕ) (w : List ℕ) (e : ℕ) (near : ℕ → ℕ → Bool) (y : ℕ)
-    → RowIs d r w w (λ x. join t (rowBit w (8 * d + x)) (rowsAsk t e near y 0 x))
-unfolding joined
-rows-none t d r w e near y = record { size = refl; before = λ j z. refl; after = λ j z. refl; pixels = λ x z. sym (join-unit t (rowBit w (8 * d + x))) }
-
-pub rows-more : (t : Bool) (p r h y k element rest : ℕ) (v w u : List ℕ) → h * r ≤ p → rest ≡ element / 2 ^ (k * 5)
-    → RowIs (p + y * r) r v w (λ x. join t (rowBit v (8 * (p + y * r) + x)) (rowsAsk t element (nearBit v r h) y k x))
-    → RowIs (p + y * r) r w u (λ x. join t (rowBit w (8 * (p + y * r) + x)) (fiveOf t rest (λ X. nearBit w r h X (y + turned t k)) x))
-    → RowIs (p + y * r) r v u (λ x. join t (rowBit v (8 * (p + y * r) + x)) (rowsAsk t element (nearBit v r h) y (k + 1) x))
-rows-more t p r h y k element rest v w u hp e a b =
-    let d : ℕ = p + y * r in
-    record {
-      size = b .size ∙ a .size;
-      before = λ j z. b .before j z ∙ a .before j z;
-      after = λ j z. b .after j z ∙ a .after j z;
-      pixels = λ x z.
-          let f : Bool = rowsAsk t element (nearBit v r h) y k x in
-          let g : Bool = fiveOf t rest (λ X. nearBit w r h X (y + turned t k)) x in
-          b .pixels x z ∙ ap (λ (n : Bool). join t n g) (a .pixels x z)
-          ∙ join-assoc t (rowBit v (8 * d + x)) f g
-          ∙ ap (λ (n : Bool). join t (rowBit v (8 * d + x)) (join t f n))
-          (λ i. fiveOf t (e i) (λ X. near-same w v r h (λ j l. a .before j (omega arith)) X (y + turned t k) i) x)
-          ∙ ap (join t (rowBit v (8 * d + x))) (sym (joined-more t k (λ k. fiveOf t (element / 2 ^ (k * 5)) (λ X. nearBit v r h X (y + turned t k)) x)));
-    }
-
-pub rows-done : (t : Bool) (d r h y k element : ℕ) (v u : List ℕ) → k ≡ 5
-    → RowIs d r v u (λ x. join t (rowBit v (8 * d + x)) (rowsAsk t element (nearBit v r h) y k x))
-    → RowIs d r v u (λ x. join t (rowBit v (8 * d + x)) (neighbours t element (nearBit v r h) x y))
-unfolding neighbours
-rows-done t d r h y k element v u e m = subst (λ (n : ℕ). RowIs d r v u (λ x. join t (rowBit v (8 * d + x)) (rowsAsk t element (nearBit v r h) y n x))) e m
-
--- a row begun, joined and cut off
-pub row-done : (t : Bool) (p r h w y element : ℕ) (v₀ v₁ v₂ v₃ : List ℕ) → h * r ≤ p → RowIs (p + y * r) r v₀ v₁ (λ x. not t)
-    → RowIs (p + y * r) r v₁ v₂ (λ x. join t (rowBit v₁ (8 * (p + y * r) + x)) (neighbours t element (nearBit v₁ r h) x y))
-    → RowIs (p + y * r) r v₂ v₃ (λ x. rowBit v₂ (8 * (p + y * r) + x) && ltb x w)
-    → RowIs (p + y * r) r v₀ v₃ (λ x. neighbours t element (nearBit v₀ r h) x y && ltb x w)
-row-done t p r h w y element v₀ v₁ v₂ v₃ hp a b c =
-    let d : ℕ = p + y * r in
-    record {
-      size = c .size ∙ b .size ∙ a .size;
-      before = λ j z. c .before j z ∙ b .before j z ∙ a .before j z;
-      after = λ j z. c .after j z ∙ b .after j z ∙ a .after j z;
-      pixels = λ x z.
-          c .pixels x z
-          ∙ ap (λ (n : Bool). n && ltb x w)
-          (b .pixels x z ∙ ap (λ (n : Bool). join t n (neighbours t element (nearBit v₁ r h) x y)) (a .pixels x z)
-          ∙ unit-join t (neighbours t element (nearBit v₁ r h) x y)
-          ∙ (λ i. neighbours t element (λ X Y. near-same v₁ v₀ r h (λ j l. a .before j (omega arith)) X Y i) x y));
-    }
-
--- ---- planes
-
-pub rows-to-none : (t : Bool) (p w r h element : ℕ) (v : List ℕ) → RowsTo t 0 p w r h element v v
-rows-to-none t p w r h element v = record { size = refl; before = λ j z. refl; after = λ j z. refl; pixels = λ y x a b. absurd (not-suc-le-zero a) }
-
-pub rows-to-more : (t : Bool) (m p w r h element : ℕ) (v u u′ : List ℕ) → h * r ≤ p → RowsTo t m p w r h element v u
-    → RowIs (p + m * r) r u u′ (λ x. neighbours t element (nearBit u r h) x m && ltb x w) → RowsTo t (m + 1) p w r h element v u′
-rows-to-more t m p w r h element v u u′ hp a b =
-    let n : (m + 1) * r ≡ m * r + r = ap (λ (k : ℕ). k * r) (add-one m) ∙ suc-mul m r in
-    record {
-      size = b .size ∙ a .size;
-      before = λ j z. b .before j (omega arith) ∙ a .before j z;
-      after = λ j z. b .after j (omega arith) ∙ a .after j (omega arith);
-      pixels = λ y x c d. by y x (decLt y m) c d;
-    }
-  where
-    by : (y x : ℕ) → Dec (y < m) → y < m + 1 → x < 8 * r → rowBit u′ (8 * (p + y * r) + x) ≡ (neighbours t element (nearBit v r h) x y && ltb x w)
-    by y x (yes c) d e =
-        let i = row-in y m r (m * r) c (le-refl (m * r)) in
-        rowBit-same u′ u (8 * (p + y * r) + x) (b .before ((8 * (p + y * r) + x) / 8) (omega arith)) ∙ a .pixels y x c e
-    by y x (no c) d e =
-        let q : y ≡ m = omega arith in
-        ap (λ (n : ℕ). rowBit u′ (8 * (p + n * r) + x)) q ∙ b .pixels x e
-        ∙ (λ i. neighbours t element (λ X Y. near-same u v r h (λ j z. a .before j (omega arith)) X Y i) x m && ltb x w)
-        ∙ ap (λ (n : ℕ). neighbours t element (nearBit v r h) x n && ltb x w) (sym q)
+-- ---- rows of the plane
 
 pub turned-lt : (t : Bool) (k : ℕ) → k < 5 → turned t k < 5
 turned-lt true k h = omega arith
@@ -320,16 +236,9 @@ turned-dilating t k e = ap (λ (b : Bool). turned b k) (sym e)
 pub turned-eroding : (t : Bool) (k : ℕ) → t ≡ false → k ≡ turned t k
 turned-eroding t k e = ap (λ (b : Bool). turned b k) (sym e)
 
-start-bit : (t : Bool) (n x : ℕ) → x < 8 * n → rowBit (replicate n (startByte t)) x ≡ not t
+pub start-bit : (t : Bool) (n x : ℕ) → x < 8 * n → rowBit (replicate n (startByte t)) x ≡ not t
 start-bit true n x h = zeros-bit n x
 start-bit false n x h = full-row n x h
-
--- a row of k = r bytes begun
-pub row-started : (t : Bool) (d r k n v : ℕ) (old ys : List ℕ) → k ≡ r → d + r ≤ length old → n ≡ k → v ≡ startByte t → ys ≡ replicate n v
-    → RowIs d r old (take d old ++ (ys ++ drop k (drop d old))) (λ x. not t)
-row-started t d r k n v old ys q h hn hv m =
-    row-part d r k old ys (λ x. not t) q h (ap length m ∙ length-replicate {A = ℕ} n v ∙ hn)
-    (λ x l. ap (λ (s : List ℕ). rowBit s x) (m ∙ ap (replicate n) hv) ∙ start-bit t n x (omega arith))
 
 -- a row of k = r bytes cut off at w
 pub row-cut : (d r k w : ℕ) (old ys : List ℕ) → k ≡ r → d + r ≤ length old → Pixelwise (take k (drop d old)) ys (λ x b. b && ltb x w)
@@ -339,31 +248,16 @@ row-cut d r k w old ys q h m =
     row-part d r k old ys (λ x. rowBit old (8 * d + x) && ltb x w) q h (m .size ∙ cut)
     (λ x l. m .pixels x (omega arith) ∙ ap (λ (b : Bool). b && ltb x w) (cut-bit d k old x (omega arith)))
 
--- one row of the element joined
-pub near-joined : (t : Bool) (d r k h Y Y′ five : ℕ) (old b ys : List ℕ) → k ≡ r → d + r ≤ length old → Y ≡ Y′ → NearRow old r h Y b
-    → RowJoined t (take k (drop d old)) ys (fiveOf t five (rowBit b))
-    → RowIs d r old (take d old ++ (ys ++ drop k (drop d old))) (λ x. join t (rowBit old (8 * d + x)) (fiveOf t five (λ X. nearBit old r h X Y′) x))
-near-joined t d r k h Y Y′ five old b ys q hd e n m =
-    row-same (joined-part t d r k old ys (fiveOf t five (rowBit b)) q hd m)
-    (λ x l. ap (join t (rowBit old (8 * d + x))) (five-near t five old b r h Y n x ∙ ap (λ (i : ℕ). fiveOf t five (λ X. nearBit old r h X i) x) e))
-
 -- an empty row of the element asks nothing
-joined-unit : (t : Bool) (n : ℕ) (f : ℕ → Bool) → ((i : ℕ) → i < n → f i ≡ not t) → joined t n f ≡ not t
+pub joined-unit : (t : Bool) (n : ℕ) (f : ℕ → Bool) → ((i : ℕ) → i < n → f i ≡ not t) → joined t n f ≡ not t
 unfolding joined
 joined-unit t zero f h = refl
 joined-unit t (suc n) f h = ap₂ (join t) (joined-unit t n f (λ i l. h i (omega arith))) (h n (omega arith)) ∙ unit-join t (not t)
 
-pub five-idle : (t : Bool) (d r five : ℕ) (w : List ℕ) (row : ℕ → Bool) → five % 32 ≡ 0
-    → RowIs d r w w (λ x. join t (rowBit w (8 * d + x)) (fiveOf t five row x))
+pub five-idle : (t : Bool) (five : ℕ) (row : ℕ → Bool) (x : ℕ) → five % 32 ≡ 0 → fiveOf t five row x ≡ not t
 unfolding fiveOf
-five-idle t d r five w row e = record {
-  size = refl;
-  before = λ j l. refl;
-  after = λ j l. refl;
-  pixels = λ x l. sym (ap (join t (rowBit w (8 * d + x)))
-      (joined-unit t 5 (λ j. cond (bit five j) (row (x + (turned t j + 6))) (not t)) (λ j lj. ap (λ (b : Bool). cond b (row (x + (turned t j + 6))) (not t)) (no-bit j lj)))
-      ∙ join-unit t (rowBit w (8 * d + x)));
-}
+five-idle t five row x e =
+    joined-unit t 5 (λ j. cond (bit five j) (row (x + (turned t j + 6))) (not t)) (λ j lj. ap (λ (b : Bool). cond b (row (x + (turned t j + 6))) (not t)) (no-bit j lj))
   where
     digit : (j : ℕ) → j < 5 → five / 2 ^ j % 2 ≡ 0
     digit zero l = omega arith

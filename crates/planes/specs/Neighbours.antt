@@ -4,7 +4,7 @@ use mathlib.Core.Bool.{Bool, _&&_, cond, false, not, true}
 use mathlib.Core.List.{List}
 use mathlib.Core.Path.{_≡_}
 use Prim.Native.Nat.{_*_, _+_, _-_, _/_, _<_, _^_, _≤_, suc, zero, ℕ}
-use lib.Dec.{leb, ltb}
+use lib.Dec.{eqb, leb, ltb}
 use lib.ListN.{getD, length}
 use Rattle.morphology.specs.Element.{bit}
 use Rattle.raster.specs.Rows.{join, rowBit}
@@ -50,6 +50,33 @@ fiveOf t five row x = joined t 5 (λ j. cond (bit five j) (row (x + (turned t j 
 -- what the whole element asks at (x, y)
 unfoldable pub neighbours : Bool → ℕ → (ℕ → ℕ → Bool) → ℕ → ℕ → Bool
 neighbours t e near x y = joined t 5 (λ k. fiveOf t (e / 2 ^ (k * 5)) (λ X. near X (y + turned t k)) x)
+
+-- what row k of an element asks at (x, y) of the row Y - 2, whose pixels are row: nothing where it leads to another row
+abbrev pub rowAsks : Bool → ℕ → (ℕ → Bool) → ℕ → ℕ → ℕ → ℕ → Bool
+rowAsks t e row Y y x k = cond (eqb (y + turned t k) Y) (fiveOf t (e / 2 ^ (k * 5)) row x) (not t)
+
+-- what the whole element asks at (x, y) of the row Y - 2 alone
+abbrev pub elementAsks : Bool → ℕ → (ℕ → Bool) → ℕ → ℕ → ℕ → Bool
+elementAsks t e row Y y x = joined t 5 (rowAsks t e row Y y x)
+
+-- new is old but for the m rows of r bytes at p, of which pixel x of row y is g y x
+pub record PlaneIs (p r m : ℕ) (old new : List ℕ) (g : ℕ → ℕ → Bool) : Type 0 where
+  pub size : length new ≡ length old
+  pub before : (j : ℕ) → j < p → getD new j 0 ≡ getD old j 0
+  pub after : (j : ℕ) → p + m * r ≤ j → getD new j 0 ≡ getD old j 0
+  pub pixels : (y x : ℕ) → y < m → x < 8 * r → rowBit new (8 * (p + y * r) + x) ≡ g y x
+
+-- new is old with f joined to each pixel of the h rows of r bytes at p
+abbrev pub PlaneJoined : Bool → ℕ → ℕ → ℕ → List ℕ → List ℕ → (ℕ → ℕ → Bool) → Type 0
+PlaneJoined t p r h old new f = PlaneIs p r h old new (λ y x. join t (rowBit old (8 * (p + y * r) + x)) (f y x))
+
+-- new is old but for the h rows of r bytes at p; when what rest asks of old is joined to them they are what the element asks
+pub record Begun (t : Bool) (p r h element rest : ℕ) (old new : List ℕ) : Type 0 where
+  pub size : length new ≡ length old
+  pub before : (j : ℕ) → j < p → getD new j 0 ≡ getD old j 0
+  pub after : (j : ℕ) → p + h * r ≤ j → getD new j 0 ≡ getD old j 0
+  pub pixels : (y x : ℕ) → y < h → x < 8 * r
+      → join t (rowBit new (8 * (p + y * r) + x)) (neighbours t rest (nearBit old r h) x y) ≡ neighbours t element (nearBit old r h) x y
 
 -- the first m rows of new at p are what the element asks of the h rows of old at 0, clipped at w; nothing else is changed
 pub record RowsTo (t : Bool) (m p w r h element : ℕ) (old new : List ℕ) : Type 0 where

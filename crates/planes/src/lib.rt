@@ -8,9 +8,9 @@ ghost use lib.ListN.{length};
 ghost use Rattle.morphology.specs.Element.{offsets, bit};
 ghost use Rattle.morphology.specs.Image.{imageSet, pack, isClean, clip};
 ghost use Rattle.morphology.specs.Morphology.{erode, dilate, opening};
-ghost use Rattle.raster.specs.Rows.{rowBit, join, overwrite, RowJoined, RowIs};
+ghost use Rattle.raster.specs.Rows.{rowBit, overwrite, RowJoined};
 ghost use Rattle.planes.specs.Frames.{Frame};
-ghost use Rattle.planes.specs.Neighbours.{nearBit, isNear, Margins, NearRow, turned, startByte, fiveOf, neighbours, RowsTo};
+ghost use Rattle.planes.specs.Neighbours.{nearBit, isNear, Margins, NearRow, turned, startByte, fiveOf, elementAsks, neighbours, PlaneIs, PlaneJoined, Begun, RowsTo};
 
 // Whether a plane of h rows has a row yk - 2.
 fn is_near(h: usize, yk: usize) -> bool
@@ -71,52 +71,91 @@ fn join_five(dilating: bool, buf: &[u8], five: u32, dst: &mut [u8])
     }
 }
 
-// Joins row k of the element, the lowest five bits of five, to row y of the plane at p.
-fn join_near(
+// Joins row k of the element, the lowest five bits of five, of the row yk - 2 in buf to the row of the plane at p that asks for it.
+fn scatter_five(
     dilating: bool,
     work: &mut [u8],
     p: usize,
     r: usize,
     h: usize,
-    y: usize,
+    yk: usize,
     k: usize,
     five: u32,
-    buf: &mut [u8],
+    buf: &[u8],
 )
-    requires { ⌜ (h * r ≤ p) × (p + h * r ≤ length (now work)) × (r ≤ 128) × (y < h) × (k < 5) × (h ≤ 1024) × Margins r (now buf) ⌝ }
-    ensures row { λ _. ⌜ RowIs (p + y * r) r (now (work .entry)) (now (work .exit)) (λ x. join dilating (rowBit (now (work .entry)) (8 * (p + y * r) + x)) (fiveOf dilating five (λ X. nearBit (now (work .entry)) r h X (y + turned dilating k)) x)) ⌝ }
-    ensures margins { λ _. ⌜ Margins r (now (buf .exit)) ⌝ }
+    requires { ⌜ (p + h * r ≤ length (now work)) × (k < 5) × (r + 2 ≤ length (now buf)) ⌝ }
+    ensures { λ _. ⌜ PlaneJoined dilating p r h (now (work .entry)) (now (work .exit)) (λ y x. cond (eqb (y + turned dilating k) yk) (fiveOf dilating five (rowBit (now (buf .entry))) x) (not dilating)) ⌝ }
 {
     if five % 32 == 0 {
         return;
     }
-    let yk = y + turn(dilating, k);
-    load_near(&work[..], r, h, yk, buf);
+    let back = turn(dilating, k);
+    if yk < back {
+        return;
+    }
+    let y = yk - back;
+    if h <= y {
+        return;
+    }
     let d = p + y * r;
-    join_five(dilating, &buf[..], five, &mut work[d..d + r]);
+    join_five(dilating, buf, five, &mut work[d..d + r]);
 }
 
-// Joins the whole element to row y of the plane at p.
-fn join_rows(
+// Joins the row yk - 2 in buf to each row of the plane at p that asks for it.
+fn scatter_row(
     dilating: bool,
     work: &mut [u8],
     p: usize,
     r: usize,
     h: usize,
-    y: usize,
+    yk: usize,
     element: u32,
-    buf: &mut [u8],
+    buf: &[u8],
 )
-    requires { ⌜ (h * r ≤ p) × (p + h * r ≤ length (now work)) × (r ≤ 128) × (y < h) × (h ≤ 1024) × Margins r (now buf) ⌝ }
-    ensures row { λ _. ⌜ RowIs (p + y * r) r (now (work .entry)) (now (work .exit)) (λ x. join dilating (rowBit (now (work .entry)) (8 * (p + y * r) + x)) (neighbours dilating element (nearBit (now (work .entry)) r h) x y)) ⌝ }
-    ensures margins { λ _. ⌜ Margins r (now (buf .exit)) ⌝ }
+    requires { ⌜ (p + h * r ≤ length (now work)) × (r + 2 ≤ length (now buf)) ⌝ }
+    ensures { λ _. ⌜ PlaneJoined dilating p r h (now (work .entry)) (now (work .exit)) (λ y x. elementAsks dilating element (rowBit (now (buf .entry))) yk y x) ⌝ }
 {
     let mut rest = element;
     let mut k: usize = 0;
     while k < 5 {
-        join_near(dilating, work, p, r, h, y, k, rest, buf);
+        if rest == 0 {
+            return;
+        }
+        scatter_five(dilating, work, p, r, h, yk, k, rest, buf);
         rest = rest / 32;
         k = k + 1;
+    }
+}
+
+// Joins row yk - 2 of the first plane to each row of the plane at p that asks for it.
+fn scatter_near(
+    dilating: bool,
+    work: &mut [u8],
+    p: usize,
+    r: usize,
+    h: usize,
+    yk: usize,
+    element: u32,
+    buf: &mut [u8],
+)
+    requires { ⌜ (h * r ≤ p) × (p + h * r ≤ length (now work)) × (r ≤ 128) × Margins r (now buf) ⌝ }
+    ensures plane { λ _. ⌜ PlaneJoined dilating p r h (now (work .entry)) (now (work .exit)) (λ y x. elementAsks dilating element (λ X. nearBit (now (work .entry)) r h X yk) yk y x) ⌝ }
+    ensures margins { λ _. ⌜ Margins r (now (buf .exit)) ⌝ }
+{
+    load_near(&work[..], r, h, yk, buf);
+    scatter_row(dilating, work, p, r, h, yk, element, &buf[..]);
+}
+
+// Joins the whole element to each row of the plane at p.
+fn scatter_plane(dilating: bool, work: &mut [u8], p: usize, r: usize, h: usize, element: u32)
+    requires { ⌜ (h * r ≤ p) × (p + h * r ≤ length (now work)) × (r ≤ 128) × (h ≤ 1024) ⌝ }
+    ensures { λ _. ⌜ PlaneJoined dilating p r h (now (work .entry)) (now (work .exit)) (λ y x. neighbours dilating element (nearBit (now (work .entry)) r h) x y) ⌝ }
+{
+    let mut buf = [0u8; 130];
+    let mut yk: usize = 0;
+    while yk < h + 4 {
+        scatter_near(dilating, work, p, r, h, yk, element, &mut buf);
+        yk = yk + 1;
     }
 }
 
@@ -130,26 +169,31 @@ fn start(dilating: bool) -> u8
     255
 }
 
-// Row y of the plane at p becomes row y of the first one eroded, or dilated.
-fn morph_row(
-    dilating: bool,
-    work: &mut [u8],
-    p: usize,
-    w: usize,
-    r: usize,
-    h: usize,
-    y: usize,
-    element: u32,
-    buf: &mut [u8],
-)
-    requires { ⌜ (h * r ≤ p) × (p + h * r ≤ length (now work)) × (w ≤ 8 * r) × (8 * r < w + 8) × (0 < r) × (r ≤ 128) × (y < h) × (h ≤ 1024) × Margins r (now buf) ⌝ }
-    ensures row { λ _. ⌜ RowIs (p + y * r) r (now (work .entry)) (now (work .exit)) (λ x. neighbours dilating element (nearBit (now (work .entry)) r h) x y && ltb x w) ⌝ }
-    ensures margins { λ _. ⌜ Margins r (now (buf .exit)) ⌝ }
+// Begins the plane at p: where the element has its origin, with the first plane, which the origin asks for. The rest of the element is returned.
+fn begin_plane(dilating: bool, work: &mut [u8], p: usize, r: usize, h: usize, element: u32) -> u32
+    requires { ⌜ (h * r ≤ p) × (p + h * r ≤ length (now work)) ⌝ }
+    ensures { λ rest. ⌜ Begun dilating p r h element rest (now (work .entry)) (now (work .exit)) ⌝ }
 {
-    let d = p + y * r;
-    raster::fill(&mut work[d..d + r], start(dilating));
-    join_rows(dilating, work, p, r, h, y, element, buf);
-    raster::clear_padding(&mut work[d..d + r], w);
+    if element / 4096 % 2 == 1 {
+        raster::copy_up(work, p, h * r);
+        return element - 4096;
+    }
+    let end = p + h * r;
+    raster::fill(&mut work[p..end], start(dilating));
+    element
+}
+
+// Clears the padding of h rows at p.
+fn clear_rows(work: &mut [u8], p: usize, w: usize, r: usize, h: usize)
+    requires { ⌜ (p + h * r ≤ length (now work)) × (w ≤ 8 * r) × (8 * r < w + 8) × (0 < r) × (r ≤ 128) ⌝ }
+    ensures { λ _. ⌜ PlaneIs p r h (now (work .entry)) (now (work .exit)) (λ y x. rowBit (now (work .entry)) (8 * (p + y * r) + x) && ltb x w) ⌝ }
+{
+    let mut y: usize = 0;
+    while y < h {
+        let d = p + y * r;
+        raster::clear_padding(&mut work[d..d + r], w);
+        y = y + 1;
+    }
 }
 
 // The first plane, h rows of r bytes, eroded or dilated into the plane at p.
@@ -165,12 +209,9 @@ fn morph_plane(
     requires { ⌜ (h * r ≤ p) × (p + h * r ≤ length (now work)) × (w ≤ 8 * r) × (8 * r < w + 8) × (0 < r) × (r ≤ 128) × (h ≤ 1024) ⌝ }
     ensures { λ _. ⌜ RowsTo dilating h p w r h element (now (work .entry)) (now (work .exit)) ⌝ }
 {
-    let mut buf = [0u8; 130];
-    let mut y: usize = 0;
-    while y < h {
-        morph_row(dilating, work, p, w, r, h, y, element, &mut buf);
-        y = y + 1;
-    }
+    let rest = begin_plane(dilating, work, p, r, h, element);
+    scatter_plane(dilating, work, p, r, h, rest);
+    clear_rows(work, p, w, r, h);
 }
 
 // The first plane of work, eroded into the one at p.

@@ -13,7 +13,7 @@ use lib.Count.{ones}
 use lib.Dec.{T, eqb}
 use lib.ListN.{List·getD-append, drop, getD, length, length-append, length-drop, take}
 use lib.Pow.{mod-pow-add, pow-pos}
-use lib.Seq.{ext-getD, getD-append-add, getD-drop, getD-take, length-take-le}
+use lib.Seq.{ext-getD, getD-append-add, getD-drop, getD-take, length-take-le, take-add}
 use Rattle.morphology.specs.Element.{bit}
 use Rattle.morphology.specs.Image.{bitOf, isClean, onesOf, pixel, stride}
 use Rattle.morphology.specs.Lists.{all, any, tabulate, upTo}
@@ -55,6 +55,16 @@ ones-suc (b ∷ l) (suc i) h = ap (λ (n : ℕ). ones b + n) (ones-suc l i (le-o
 
 pub ones-more : (l : List ℕ) (i : ℕ) → i < length l → onesOf (take (i + 1) l) ≡ onesOf (take i l) + ones (getD l i 0)
 ones-more l i h = rw add-one (ones-suc l i h)
+
+ones-append : (a b : List ℕ) → onesOf (a ++ b) ≡ onesOf a + onesOf b
+unfolding onesOf
+ones-append [] b = sym (zero-add (onesOf b))
+ones-append (x ∷ a) b = ap (λ (n : ℕ). ones x + n) (ones-append a b) ∙ sym (add-assoc (ones x) (onesOf a) (onesOf b))
+
+-- k elements more
+pub ones-part : (l : List ℕ) (i k j : ℕ) → k ≡ j → onesOf (take (i + j) l) ≡ onesOf (take i l) + onesOf (take k (drop i l))
+ones-part l i k j e =
+    ap onesOf (take-add i j l) ∙ ones-append (take i l) (take j (drop i l)) ∙ ap (λ (n : ℕ). onesOf (take i l) + onesOf (take n (drop i l))) (sym e)
 
 -- ---- ink
 

@@ -1,10 +1,11 @@
 -- A whole whose part, lent, has come back.
-use mathlib.Core.Path.{_∙_, _≡_, ap, ap₂, subst, sym}
+use mathlib.Core.Path.{_∙_, _≡_, ap, ap₂, refl, subst, sym}
 use mathlib.Core.Bool.{Bool, _&&_}
 use mathlib.Core.List.{List, [], _++_, append-assoc, append-nil}
 use Prim.Native.Nat.{_%_, _*_, _+_, _-_, _/_, _<_, _^_, _≤_, ℕ}
 use native.Mathlib.Decide.{decLt}
-use native.Mathlib.Nat.{add-assoc, zero-add}
+use native.Mathlib.Nat.{add-assoc, not-suc-le-zero, zero-add}
+use borrow.Author.Count.{below-more}
 use native.Mathlib.Omega.{arith}
 use borrow.Author.Tests.{le-ltb, lt-ltb}
 use lib.Dec.{ltb}
@@ -40,6 +41,23 @@ part-back a k old ys h e =
           right j (omega arith) ∙ getD-right ys (drop k (drop a old)) (j - a) (omega arith)
           ∙ getD-drop k (drop a old) (j - a - length ys) 0 ∙ getD-drop a old (k + (j - a - length ys)) 0
           ∙ ap (λ (m : ℕ). getD old m 0) (omega arith);
+    }
+
+-- no element of the part, and one more
+pub part-none : (a : ℕ) (old ys : List ℕ) → PartIs a 0 old ys old
+part-none a old ys = record { size = refl; within = λ j l. absurd (not-suc-le-zero l); before = λ j l. refl; after = λ j l. refl }
+
+pub part-more : (a k v : ℕ) (old ys new : List ℕ) → a + k < length old → v ≡ getD ys k 0 → PartIs a k old ys new
+    → PartIs a (k + 1) old ys (set new (a + k) v)
+part-more a k v old ys new h e m =
+    let hl : a + k < length new = omega (arith, m .size) in
+    record {
+      size = length-set new (a + k) v ∙ m .size;
+      within = below-more (λ (j : ℕ). getD (set new (a + k) v) (a + j) 0 ≡ getD ys j 0) k
+          (λ j lt. getD-set-other new (a + k) (a + j) v 0 (λ p. omega arith) ∙ m .within j lt)
+          (getD-set-same new (a + k) v 0 hl ∙ e);
+      before = λ j lt. getD-set-other new (a + k) j v 0 (λ p. omega arith) ∙ m .before j lt;
+      after = λ j le. getD-set-other new (a + k) j v 0 (λ p. omega arith) ∙ m .after j (omega arith);
     }
 
 -- ---- written over
@@ -139,6 +157,10 @@ row-part d r k old ys g e h len m =
       after = λ j l. p .after j (omega arith);
       pixels = λ x l. part-bit p x (omega arith) ∙ m x l;
     }
+
+-- the first r bytes copied to d
+pub row-copied : (d r : ℕ) (old new : List ℕ) → PartIs d r old old new → RowIs d r old new (rowBit old)
+row-copied d r old new p = record { size = p .size; before = p .before; after = p .after; pixels = λ x l. part-bit p x l }
 
 -- f joined to a row, lent as a part of k = r bytes and back
 pub joined-part : (t : Bool) (d r k : ℕ) (old ys : List ℕ) (f : ℕ → Bool) → k ≡ r → d + r ≤ length old → RowJoined t (take k (drop d old)) ys f

@@ -6,7 +6,7 @@ ghost use lib.Dec.{ltb, eqb};
 ghost use lib.ListN.{length, getD, replicate, take, drop};
 ghost use Rattle.morphology.specs.Image.{stride, isClean, onesOf, pixel as pixelOf};
 ghost use Rattle.morphology.specs.Lists.{any, all, upTo};
-ghost use Rattle.raster.specs.Rows.{rowBit, joinByte, Pixelwise, RowJoined};
+ghost use Rattle.raster.specs.Rows.{rowBit, joinByte, Pixelwise, RowIs, RowJoined};
 
 // Two bytes joined pixel by pixel: by or in a dilation, by and in an erosion.
 fn join(dilating: bool, a: u8, b: u8) -> u8
@@ -92,6 +92,18 @@ pub fn copy_down(work: &mut [u8], p: usize, n: usize)
     }
 }
 
+// The first n bytes copied to p.
+pub fn copy_up(work: &mut [u8], p: usize, n: usize)
+    requires { ⌜ (n ≤ p) × (p + n ≤ length (now work)) ⌝ }
+    ensures { λ _. ⌜ RowIs p n (now (work .entry)) (now (work .exit)) (rowBit (now (work .entry))) ⌝ }
+{
+    let mut i: usize = 0;
+    while i < n {
+        work[p + i] = work[i];
+        i = i + 1;
+    }
+}
+
 // Takes the foreground of src out of dst.
 pub fn subtract(src: &[u8], dst: &mut [u8])
     requires { ⌜ length (now src) ≡ length (now dst) ⌝ }
@@ -104,6 +116,20 @@ pub fn subtract(src: &[u8], dst: &mut [u8])
     }
 }
 
+// The number of ones in few bytes: it fits a byte.
+fn count_part(s: &[u8]) -> u8
+    requires { ⌜ length (now s) ≤ 16 ⌝ }
+    ensures { λ r. ⌜ (r ≡ onesOf (now (s .entry))) × (r ≤ 128) ⌝ }
+{
+    let mut n: u8 = 0;
+    let mut i: usize = 0;
+    while i < s.len() {
+        n = n + u8::count_ones(s[i]) as u8;
+        i = i + 1;
+    }
+    n
+}
+
 // The number of ones in the bytes of s.
 pub fn count_ones(s: &[u8]) -> u32
     requires { ⌜ length (now s) < 2 ^ 20 ⌝ }
@@ -111,11 +137,11 @@ pub fn count_ones(s: &[u8]) -> u32
 {
     let mut n: u32 = 0;
     let mut i: usize = 0;
-    while i < s.len() {
-        n = n + u8::count_ones(s[i]);
-        i = i + 1;
+    while i + 16 <= s.len() {
+        n = n + count_part(&s[i..i + 16]) as u32;
+        i = i + 16;
     }
-    n
+    n + count_part(&s[i..]) as u32
 }
 
 // Whether a byte of s is not 0.

@@ -6,7 +6,7 @@ use Prim.Native.Nat.{_*_, ℕ}
 use borrow.Author.Tests.{ltb-false}
 use lib.Dec.{T}
 use lib.ListN.{length}
-use Rattle.morphology.specs.Answers.{foreground, outcome, refused}
+use Rattle.morphology.specs.Answers.{Outcome, foreground, outcome, refused}
 use Rattle.morphology.specs.Element.{isElement}
 use Rattle.morphology.specs.Image.{isClean, planeBytes}
 use Rattle.morphology.specs.Labels.{area}
@@ -36,17 +36,16 @@ module _ (W H e n : ℕ) (image out work : List ℕ) where
         T-of-not (isElement e) (r2 .0),
       )
 
--- ---- a call that writes an image, by its rows
+-- ---- a call by its rows
 
-module _ (rows : List Row) (W H : ℕ) (X : Point → Bool) (out work : List ℕ) where
-  pub writes-refused : (r : ℕ) → r ≡ firstRefusal rows → (r ≡ 0 → ⊥)
-      → outcome (refused r) (out ∷ work ∷ []) ≡ unless (firstRefusal rows) (out ∷ work ∷ []) (writes W H X work)
-  writes-refused r q f =
-      sym (unless-refused r (out ∷ work ∷ []) (writes W H X work) f) ∙ ap (λ (k : ℕ). unless k (out ∷ work ∷ []) (writes W H X work)) q
+-- refused: the number alone, and nothing changed
+pub checked-refused : (rows : List Row) (lent : List (List ℕ)) (o : Outcome) (r : ℕ) → r ≡ firstRefusal rows → (r ≡ 0 → ⊥) → outcome (refused r) lent ≡ unless (firstRefusal rows) lent o
+checked-refused rows lent o r q f = sym (unless-refused r lent o f) ∙ ap (λ (k : ℕ). unless k lent o) q
 
-  pub writes-done : (r n : ℕ) (out′ work′ : List ℕ) → r ≡ firstRefusal rows → r ≡ 0 → Wrote W H X n out′ work work′
-      → outcome (foreground n) (out′ ∷ work′ ∷ []) ≡ unless (firstRefusal rows) (out ∷ work ∷ []) (writes W H X work)
-  writes-done r n out′ work′ q z h =
-      ap (λ (k : ℕ). outcome (foreground k) (out′ ∷ work′ ∷ [])) (h .answer)
-      ∙ ap₂ (λ (o w : List ℕ). outcome (foreground (area W H X)) (o ∷ w ∷ [])) (h .image) (h .left)
-      ∙ sym (unless-in (firstRefusal rows) (out ∷ work ∷ []) (writes W H X work) (sym q ∙ z))
+-- an image written
+pub writes-done : (rows : List Row) (W H : ℕ) (X : Point → Bool) (out work : List ℕ) (r n : ℕ) (out′ work′ : List ℕ) → r ≡ firstRefusal rows → r ≡ 0 → Wrote W H X n out′ work work′
+    → outcome (foreground n) (out′ ∷ work′ ∷ []) ≡ unless (firstRefusal rows) (out ∷ work ∷ []) (writes W H X work)
+writes-done rows W H X out work r n out′ work′ q z h =
+    ap (λ (k : ℕ). outcome (foreground k) (out′ ∷ work′ ∷ [])) (h .answer)
+    ∙ ap₂ (λ (o w : List ℕ). outcome (foreground (area W H X)) (o ∷ w ∷ [])) (h .image) (h .left)
+    ∙ sym (unless-in (firstRefusal rows) (out ∷ work ∷ []) (writes W H X work) (sym q ∙ z))

@@ -213,21 +213,26 @@ pub three-cleared : (n : ℕ) (old ys : List ℕ) → ys ≡ replicate (length (
     → ys ++ drop n old ≡ replicate n 0 ++ drop n old
 three-cleared n old ys e h = ap (λ (l : List ℕ). l ++ drop n old) (e ∙ ap (λ (k : ℕ). replicate k 0) (length-take-le n old h))
 
+-- work as it is left: cleared, and as it was before an image was copied in
+pub rest-cleared : (W H p : ℕ) (image work ys u : List ℕ) → p ≡ planeBytes W H → length image ≡ p → ys ≡ image → drop (3 * p) u ≡ drop (3 * p) (ys ++ drop p work)
+    → replicate (3 * p) 0 ++ drop (3 * p) u ≡ cleared W H work
+unfolding cleared
+rest-cleared W H p image work ys u q hi ey m =
+    let d : 3 * p ≡ p + 2 * p = omega arith in
+    ap (λ (l : List ℕ). replicate (3 * p) 0 ++ l)
+    (m ∙ ap₂ (λ (k : ℕ) (l : List ℕ). drop k (l ++ drop p work)) d ey ∙ sym (drop-drop (2 * p) p (image ++ drop p work))
+    ∙ ap (drop (2 * p)) (drop-at image (drop p work) p hi) ∙ drop-drop (2 * p) p work ∙ ap (λ (k : ℕ). drop k work) (sym d))
+    ∙ ap (λ (k : ℕ). replicate (3 * k) 0 ++ drop (3 * k) work) q
+
 -- handed out after an image was copied in
 pub wrote : (W H p n : ℕ) (X : Point → Bool) (image work ys u out work′ : List ℕ) → p ≡ planeBytes W H → OnFrame W H X → length image ≡ p → ys ≡ image
     → First W H p X (ys ++ drop p work) u → HandedOut p (take p u) n out u work′ → Wrote W H X n out work work′
-unfolding cleared
 wrote W H p n X image work ys u out work′ q on hi ey m h =
-    let d : 2 * p + p ≡ 3 * p = omega arith in
-    let d′ : p + 2 * p ≡ 3 * p = omega arith in
+    let d : 3 * p ≡ 2 * p + p = omega arith in
+    let rest : drop (3 * p) u ≡ drop (3 * p) (ys ++ drop p work) =
+    ap (λ (k : ℕ). drop k u) d ∙ sym (drop-drop p (2 * p) u) ∙ ap (drop p) (m .rest) ∙ drop-drop p (2 * p) (ys ++ drop p work) ∙ ap (λ (k : ℕ). drop k (ys ++ drop p work)) (sym d) in
     record {
       answer = h .answer ∙ ap onesOf (m .first) ∙ sym (area-pack W H X on);
       image = h .image ∙ m .first;
-      left =
-          h .left
-          ∙ ap (λ (l : List ℕ). replicate (3 * p) 0 ++ l)
-          (ap (λ (k : ℕ). drop k u) (sym d) ∙ sym (drop-drop p (2 * p) u) ∙ ap (drop p) (m .rest) ∙ drop-drop p (2 * p) (ys ++ drop p work)
-          ∙ ap₂ (λ (k : ℕ) (l : List ℕ). drop k (l ++ drop p work)) (d ∙ sym d′) ey
-          ∙ sym (drop-drop (2 * p) p (image ++ drop p work)) ∙ ap (drop (2 * p)) (drop-at image (drop p work) p hi) ∙ drop-drop (2 * p) p work ∙ ap (λ (k : ℕ). drop k work) d′)
-          ∙ ap (λ (k : ℕ). replicate (3 * k) 0 ++ drop (3 * k) work) q;
+      left = h .left ∙ rest-cleared W H p image work ys u q hi ey rest;
     }

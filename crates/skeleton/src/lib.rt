@@ -1,21 +1,39 @@
+mod labels;
+
 ghost use mathlib.Core.Path.{_≡_};
-ghost use mathlib.Core.List.{[], _∷_};
-ghost use Prim.Native.Nat.{_*_, _<_, _≤_, _^_};
+ghost use mathlib.Core.List.{[], _∷_, _++_};
+ghost use Prim.Native.Nat.{_+_, _*_, _<_, _≤_, _^_};
 ghost use lib.Dec.{T};
-ghost use lib.ListN.{length, take};
+ghost use lib.ListN.{length, replicate, take, drop};
 ghost use Rattle.morphology.specs.Answers.{outcome};
 ghost use Rattle.morphology.specs.Element.{offsets, isElement};
 ghost use Rattle.morphology.specs.Image.{imageSet, isClean, clip};
 ghost use Rattle.morphology.specs.Morphology.{erode as erodeSet, dilate as dilateSet, opening, times};
-ghost use Rattle.morphology.specs.Operations.{eroded, opened, foldRows};
+ghost use Rattle.morphology.specs.Operations.{cleared, eroded, opened, decomposed, foldRows, decomposeRows};
 ghost use Rattle.morphology.specs.Refusals.{firstRefusal};
+ghost use Rattle.planes.specs.Frames.{Frame};
 ghost use Rattle.skeleton.specs.Steps.{Sheet, First, HandedOut, Wrote, Ready, dilated};
+ghost use Rattle.skeleton.specs.Turns.{Turned, Took, Finished};
+ghost use Rattle.skeleton.specs.Decomposed.{answerOf as decomposedAnswer};
 ghost use Rattle.skeleton.specs.Written.{answerOf};
 
 // The answer of an operation that writes an image.
 pub enum Written {
     Refused(u8),
     Area(u32),
+}
+
+// The answer of a decomposition; an empty image has no largest size.
+pub enum Decomposed {
+    Refused(u8),
+    Blank,
+    Skeleton { points: u32, largest: u32 },
+}
+
+// What the turns of a decomposition found: the points, and how many turns had one.
+struct Found {
+    points: u32,
+    turns: u32,
 }
 
 // The first plane eroded in place, by way of the second.
@@ -66,13 +84,21 @@ fn dilate_times(w: usize, h: usize, r: usize, p: usize, element: u32, n: u32, wo
     }
 }
 
+// The three planes of work cleared.
+fn clear_work(p: usize, work: &mut [u8])
+    requires { ⌜ (3 * p ≤ length (now work)) × (p < 2 ^ 20) ⌝ }
+    ensures { λ _. ⌜ now (work .exit) ≡ replicate (3 * p) 0 ++ drop (3 * p) (now (work .entry)) ⌝ }
+{
+    raster::fill(&mut work[..3 * p], 0);
+}
+
 // The first plane copied to out and counted, and three planes of work cleared.
 fn hand_out(p: usize, out: &mut [u8], work: &mut [u8]) -> u32
     requires { ⌜ (3 * p ≤ length (now work)) × (length (now out) ≡ p) × (p < 2 ^ 20) ⌝ }
     ensures { λ n. ⌜ HandedOut p (take p (now (work .entry))) n (now (out .exit)) (now (work .entry)) (now (work .exit)) ⌝ }
 {
     raster::copy(&work[..p], out);
-    raster::fill(&mut work[..3 * p], 0);
+    clear_work(p, work);
     raster::count_ones(&out[..])
 }
 
@@ -183,4 +209,120 @@ pub fn open(
     }
     let area = open_into(w as usize, h as usize, element, n, image, out, work);
     Written::Area(area)
+}
+
+// One turn of a decomposition: the first plane eroded, and v at its points that its opening lacks. Answers how many.
+fn turn(
+    w: usize,
+    h: usize,
+    r: usize,
+    p: usize,
+    element: u32,
+    v: u8,
+    labels: &mut [u8],
+    work: &mut [u8],
+) -> u32
+    requires { ⌜ Frame w h r × (h * r ≤ p) × (p + p + h * r ≤ length (now work)) × (length (now labels) ≡ w * h) × T (isElement element) × T (isClean w h (now work)) ⌝ }
+    ensures { λ n. ⌜ Turned w h p (offsets element) v (now (work .entry)) (now (work .exit)) (now (labels .entry)) (now (labels .exit)) n ⌝ }
+{
+    planes::open_plane(w, h, r, p, element, work);
+    let n = labels::label_plane(&work[..], w, h, r, p + p, v, labels);
+    raster::copy_down(work, p, h * r);
+    n
+}
+
+// Turns until the first plane is empty; turn n writes n + 1.
+fn take_turns(
+    w: usize,
+    h: usize,
+    r: usize,
+    p: usize,
+    element: u32,
+    labels: &mut [u8],
+    work: &mut [u8],
+) -> Found
+    requires { ⌜ Sheet w h r p × (w ≤ 255) × (h ≤ 255) × (3 * p ≤ length (now work)) × (now labels ≡ replicate (w * h) 0) × T (isElement element) × T (isClean w h (now work)) ⌝ }
+    ensures { λ f. ⌜ Took w h p (offsets element) (imageSet w h (now (work .entry))) (f .turns) (now (work .entry)) (now (work .exit)) (now (labels .exit)) (f .points) ⌝ }
+{
+    let mut points: u32 = 0;
+    let mut n: u32 = 0;
+    while raster::has_ink(&work[..p]) {
+        let new = turn(w, h, r, p, element, (n + 1) as u8, labels, work);
+        points = points + new;
+        n = n + 1;
+    }
+    Found { points, turns: n }
+}
+
+// An image that is not refused, decomposed into labels.
+fn decompose_into(
+    w: usize,
+    h: usize,
+    element: u32,
+    image: &[u8],
+    labels: &mut [u8],
+    work: &mut [u8],
+) -> Found
+    requires { ⌜ Ready w h (now image) (now image) (now work) × (w ≤ 255) × (h ≤ 255) × (length (now labels) ≡ w * h) × T (isElement element) ⌝ }
+    ensures done { λ f. ⌜ Finished w h (offsets element) (imageSet w h (now (image .entry))) (f .turns) (now (labels .exit)) (f .points) ⌝ }
+    ensures work { λ f. ⌜ now (work .exit) ≡ cleared w h (now (work .entry)) ⌝ }
+{
+    let r = (w + 7) / 8;
+    let p = h * r;
+    raster::copy(image, &mut work[..p]);
+    raster::fill(labels, 0);
+    let found = take_turns(w, h, r, p, element, labels, work);
+    clear_work(p, work);
+    found
+}
+
+// The first row of the table of refusals that applies to a decomposition; 0 if there is none.
+fn decompose_refusal(w: u32, h: u32, element: u32, image: &[u8], labels: &[u8], work: &[u8]) -> u8
+    ensures { λ r. ⌜ r ≡ firstRefusal (decomposeRows w h element (now (image .entry)) (now (labels .entry)) (now (work .entry))) ⌝ }
+{
+    if planes::refusals::bad_sides(w, h) {
+        return 1;
+    }
+    if planes::refusals::bad_element(element) {
+        return 2;
+    }
+    if planes::refusals::not_plane(w, h, image) {
+        return 3;
+    }
+    if planes::refusals::not_places(w, h, labels) {
+        return 3;
+    }
+    if planes::refusals::short_work(w, h, work) {
+        return 3;
+    }
+    if planes::refusals::bad_padding(w, h, image) {
+        return 4;
+    }
+    0
+}
+
+// Decomposition: the skeleton function of image into labels.
+pub fn decompose(
+    w: u32,
+    h: u32,
+    element: u32,
+    image: &[u8],
+    labels: &mut [u8],
+    work: &mut [u8],
+) -> Decomposed
+    ensures { λ r. ⌜ outcome (decomposedAnswer r) (now (labels .exit) ∷ now (work .exit) ∷ []) ≡ decomposed w h element (now (image .entry)) (now (labels .entry)) (now (work .entry)) ⌝ }
+{
+    let row = decompose_refusal(w, h, element, image, &labels[..], &work[..]);
+    if row != 0 {
+        return Decomposed::Refused(row);
+    }
+    let found = decompose_into(w as usize, h as usize, element, image, labels, work);
+    let turns = found.turns;
+    if turns == 0 {
+        return Decomposed::Blank;
+    }
+    Decomposed::Skeleton {
+        points: found.points,
+        largest: turns - 1,
+    }
 }

@@ -1,7 +1,9 @@
 // The public operations with C's calling convention, for bench/.
+use skeleton::Decomposed;
 use skeleton::Written;
 ghost use mathlib.Core.Path.{_≡_};
-ghost use Rattle.morphology.specs.Operations.{eroded, opened};
+ghost use Rattle.morphology.specs.Operations.{decomposed, eroded, opened};
+ghost use Rattle.skeleton.specs.Decomposed.{answerOf as decomposedAnswer};
 ghost use Rattle.skeleton.specs.Written.{answerOf};
 ghost use Rattle.timing.specs.Values.{firstValue};
 
@@ -11,6 +13,16 @@ fn value(a: Written) -> u32
     match a {
         Written::Refused(n) => n as u32,
         Written::Area(n) => n,
+    }
+}
+
+fn points(a: Decomposed) -> u32
+    ensures { λ r. ⌜ r ≡ firstValue (decomposedAnswer a) ⌝ }
+{
+    match a {
+        Decomposed::Refused(n) => n as u32,
+        Decomposed::Blank => 0,
+        Decomposed::Skeleton { points, largest } => points,
     }
 }
 
@@ -42,4 +54,18 @@ pub extern "C" fn time_open(
     ensures { λ r. ⌜ r ≡ firstValue (opened w h element n (now (image .entry)) (now (out .entry)) (now (work .entry)) .answer) ⌝ }
 {
     value(skeleton::open(w, h, element, n, image, out, work))
+}
+
+#[no_mangle]
+pub extern "C" fn time_decompose(
+    w: u32,
+    h: u32,
+    element: u32,
+    image: &[u8],
+    labels: &mut [u8],
+    work: &mut [u8],
+) -> u32
+    ensures { λ r. ⌜ r ≡ firstValue (decomposed w h element (now (image .entry)) (now (labels .entry)) (now (work .entry)) .answer) ⌝ }
+{
+    points(skeleton::decompose(w, h, element, image, labels, work))
 }

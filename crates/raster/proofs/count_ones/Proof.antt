@@ -1,13 +1,12 @@
 -- `raster::count_ones` meets its contract.
-use Prim.Native.Nat.{_*_, _-_, _≤_, ℕ}
-use Rattle.morphology.specs.Image.{onesOf}
-use Rattle.raster.proofs.CountLaws.{ones-more}
-use denote.Ref.{now}
-use lib.Count.{ones-le}
-use lib.ListN.{getD, length, take}
-use lib.Seq.{take-length}
-use mathlib.Core.Path.{_∙_, _≡_, ap, refl}
+use mathlib.Core.Path.{_∙_, _≡_, ap, ap₂, refl, sym}
+use Prim.Native.Nat.{_*_, _+_, _-_, _≤_, ℕ}
 use native.Mathlib.Omega.{arith}
+use denote.Ref.{now}
+use lib.ListN.{drop, length, length-drop, take}
+use lib.Seq.{length-take-le, take-length}
+use Rattle.morphology.specs.Image.{onesOf}
+use Rattle.raster.proofs.CountLaws.{ones-part}
 use Rattle.raster.proofs.count_ones.Statement.{statement}
 use Rattle.raster.proofs.count_ones.Tie as tie
 
@@ -21,13 +20,32 @@ loop-holds : tie.Need-loop-holds Inv-loop μ-loop
 unfolding onesOf
 loop-holds c = (omega arith, refl, omega arith)
 
-shared-slice-read-n : tie.Need-shared-slice-read-n Inv-loop μ-loop
-shared-slice-read-n c = omega arith
+add-loop : tie.Need-add-loop Inv-loop μ-loop
+add-loop c = omega arith
+
+add-count-part : tie.Need-add-count-part Inv-loop μ-loop
+add-count-part c = omega arith
+
+sub-count-part : tie.Need-sub-count-part Inv-loop μ-loop
+sub-count-part c = omega arith
+
+part-count-part-start : tie.Need-part-count-part-start Inv-loop μ-loop
+part-count-part-start c = omega arith
+
+part-count-part-end : tie.Need-part-count-part-end Inv-loop μ-loop
+part-count-part-end c = omega arith
+
+count-part-requires : tie.Need-count-part-requires Inv-loop μ-loop
+count-part-requires c κs =
+    let l = c .before .before .loop in
+    let s = now (c .before .before .before .before .args .s) in
+    omega (arith, length-take-le (l .i + 16 - l .i) (drop (l .i) s) (omega (arith, length-drop (l .i) s)))
+
+cast-n : tie.Need-cast-n Inv-loop μ-loop
+cast-n c = omega (arith, c .count-part .ensures .1)
 
 add-n : tie.Need-add-n Inv-loop μ-loop
-add-n c =
-    let l = c .before .before .loop in
-    omega (arith, ones-le 8 (getD (now (c .before .before .before .args .s)) (l .i) 0) (c .shared-slice-known .given (l .i) .fits))
+add-n c = omega (arith, c .count-part .ensures .1)
 
 add-i : tie.Need-add-i Inv-loop μ-loop
 add-i c = omega arith
@@ -37,18 +55,41 @@ loop-less c = omega arith
 
 loop-again : tie.Need-loop-again Inv-loop μ-loop
 loop-again c =
+    let l = c .before .before .before .loop in
+    let s = now (c .before .before .before .before .before .args .s) in (
+      omega arith,
+      ap₂ _+_ (l .inv .1) (c .count-part .ensures .0) ∙ sym (ones-part s (l .i) (l .i + 16 - l .i) 16 (omega arith)),
+      omega (arith, c .count-part .ensures .1),
+    )
+
+sub-count-part-2 : tie.Need-sub-count-part-2 Inv-loop μ-loop
+sub-count-part-2 c = omega arith
+
+part-count-part-start-2 : tie.Need-part-count-part-start-2 Inv-loop μ-loop
+part-count-part-start-2 c = omega arith
+
+part-count-part-end-2 : tie.Need-part-count-part-end-2 Inv-loop μ-loop
+part-count-part-end-2 c = omega arith
+
+count-part-requires-2 : tie.Need-count-part-requires-2 Inv-loop μ-loop
+count-part-requires-2 c κs =
     let l = c .before .before .loop in
-    let p = now (c .before .before .before .args .s) in
-    let m = ones-more p (l .i) (omega arith) in
-    let o = ones-le 8 (getD p (l .i) 0) (c .shared-slice-known .given (l .i) .fits) in
-    (omega arith, omega (arith, m, l .inv .1), omega (arith, o))
+    let s = now (c .before .before .before .before .args .s) in
+    omega (arith, length-take-le (length s - l .i) (drop (l .i) s) (omega (arith, length-drop (l .i) s)))
+
+cast-result : tie.Need-cast-result Inv-loop μ-loop
+cast-result c = omega (arith, c .count-part2 .ensures .1)
+
+add-result : tie.Need-add-result Inv-loop μ-loop
+add-result c = omega (arith, c .count-part2 .ensures .1)
 
 returns : tie.Need-returns Inv-loop μ-loop
 returns c =
-    let l = c .before .loop in
-    let p = now (c .before .before .args .s) in
-    let e : l .i ≡ length p = omega arith in
-    l .inv .1 ∙ ap (λ (n : ℕ). onesOf (take n p)) e ∙ ap onesOf (take-length p)
+    let l = c .before .before .before .loop in
+    let s = now (c .before .before .before .before .before .args .s) in
+    let e : l .i + (length s - l .i) ≡ length s = omega arith in
+    ap₂ _+_ (l .inv .1) (c .count-part2 .ensures .0) ∙ sym (ones-part s (l .i) (length s - l .i) (length s - l .i) refl)
+    ∙ ap (λ (n : ℕ). onesOf (take n s)) e ∙ ap onesOf (take-length s)
 
 pub count-ones-spec : {M : Type 1} → statement M
 count-ones-spec =
@@ -57,9 +98,21 @@ count-ones-spec =
     Inv-loop
     μ-loop
     loop-holds
-    shared-slice-read-n
+    add-loop
+    add-count-part
+    sub-count-part
+    part-count-part-start
+    part-count-part-end
+    count-part-requires
+    cast-n
     add-n
     add-i
     loop-less
     loop-again
+    sub-count-part-2
+    part-count-part-start-2
+    part-count-part-end-2
+    count-part-requires-2
+    cast-result
+    add-result
     returns)

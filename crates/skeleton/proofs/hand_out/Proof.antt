@@ -1,12 +1,10 @@
 -- `skeleton::hand_out` meets its contract.
 use mathlib.Core.Path.{_∙_, ap, sym}
-use Prim.Native.Nat.{_*_}
 use native.Mathlib.Omega.{arith}
 use borrow.Author.Needs.{needs}
 use denote.Ref.{now}
 use lib.Seq.{length-take-le}
 use Rattle.morphology.specs.Image.{onesOf}
-use Rattle.skeleton.proofs.StepLaws.{three-cleared}
 use Rattle.skeleton.proofs.hand_out.Statement.{statement}
 use Rattle.skeleton.proofs.hand_out.Tie as tie
 
@@ -19,17 +17,8 @@ slice-aggregate-copy c = let s = c .before .before .before in sym (length-take-l
 copy-requires : tie.Need-copy-requires
 copy-requires c κs = let s = c .before .before .before .before in length-take-le (s .args .p) (now (s .args .work)) (omega (arith, s .pre .0)) ∙ sym (s .pre .1)
 
-mul-fill : tie.Need-mul-fill
-mul-fill c = search needs
-
-slice-relend-prefix-fill : tie.Need-slice-relend-prefix-fill
-slice-relend-prefix-fill c = search needs
-
-slice-aggregate-fill : tie.Need-slice-aggregate-fill
-slice-aggregate-fill c = let s = c .before .before .before .before .before .before .before .before in sym (length-take-le (3 * s .args .p) (now (s .args .work)) (omega (arith, s .pre .0)))
-
-fill-requires : tie.Need-fill-requires
-fill-requires c κs = search needs
+clear-work-requires : tie.Need-clear-work-requires
+clear-work-requires c κs = search needs
 
 count-ones-requires : tie.Need-count-ones-requires
 count-ones-requires c κs = search needs
@@ -41,14 +30,7 @@ same-length-2 : tie.Need-same-length-2
 same-length-2 c = search needs
 
 returns : tie.Need-returns
-returns c =
-    let s = c .before .before .before .before .before .before .before .before .before .before .before .before .before in
-    let e = c .before .before .before .before .before .before .before .before .copy .ensures in
-    record {
-      answer = c .count-ones .ensures ∙ ap onesOf e;
-      image = e;
-      left = three-cleared (3 * s .args .p) (now (s .args .work)) _ (c .before .before .before .before .fill .ensures) (omega (arith, s .pre .0));
-    }
+returns c = let e = c .before .before .before .before .before .before .before .before .copy .ensures in record { answer = c .count-ones .ensures ∙ ap onesOf e; image = e; left = c .before .before .before .before .clear-work .ensures }
 
 pub hand-out-spec : {M : Type 1} → statement M
 hand-out-spec =
@@ -57,10 +39,7 @@ hand-out-spec =
     slice-reshare-prefix-copy
     slice-aggregate-copy
     copy-requires
-    mul-fill
-    slice-relend-prefix-fill
-    slice-aggregate-fill
-    fill-requires
+    clear-work-requires
     count-ones-requires
     same-length
     same-length-2

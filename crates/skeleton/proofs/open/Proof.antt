@@ -1,12 +1,13 @@
 -- `skeleton::open` meets its contract.
+use mathlib.Core.List.{[], _∷_}
 use mathlib.Core.Path.{_∙_, sym}
 use borrow.Author.Needs.{needs}
 use denote.Ref.{now}
 use Rattle.morphology.specs.Element.{offsets}
 use Rattle.morphology.specs.Image.{imageSet}
 use Rattle.morphology.specs.Morphology.{opening, times}
-use Rattle.morphology.specs.Operations.{foldRows, opened}
-use Rattle.skeleton.proofs.FoldLaws.{fold-ready, writes-done, writes-refused}
+use Rattle.morphology.specs.Operations.{foldRows, opened, writes}
+use Rattle.skeleton.proofs.FoldLaws.{checked-refused, fold-ready, writes-done}
 use Rattle.skeleton.proofs.open.Statement.{statement}
 use Rattle.skeleton.proofs.open.Tie as tie
 
@@ -23,7 +24,8 @@ returns : tie.Need-returns
 unfolding opened
 returns c =
     let a = c .before .before .before .before .before .before .before .args in
-    writes-refused (foldRows (a .w) (a .h) (a .element) (a .n) (now (a .image)) (now (a .out)) (now (a .work))) (a .w) (a .h) (opening (times (offsets (a .element)) (a .n)) (imageSet (a .w) (a .h) (now (a .image)))) (now (a .out)) (now (a .work)) _
+    checked-refused (foldRows (a .w) (a .h) (a .element) (a .n) (now (a .image)) (now (a .out)) (now (a .work))) (now (a .out) ∷ now (a .work) ∷ [])
+    (writes (a .w) (a .h) (opening (times (offsets (a .element)) (a .n)) (imageSet (a .w) (a .h) (now (a .image)))) (now (a .work))) _
     (c .before .fold-refusal .ensures) (c .if1 .taken)
 
 open-into-requires : tie.Need-open-into-requires

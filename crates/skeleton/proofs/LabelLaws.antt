@@ -1,0 +1,191 @@
+-- Labels written row by row.
+use mathlib.Core.Bool.{Bool, _&&_, cond, false, not, true}
+use mathlib.Core.List.{List, _++_}
+use mathlib.Core.Path.{_∙_, _≡_, ap, ap₂, refl, subst, sym}
+use Prim.Native.Nat.{_%_, _*_, _+_, _-_, _/_, _<_, _^_, _≤_, suc, zero, ℕ}
+use native.Mathlib.Decide.{decLt}
+use native.Mathlib.Nat.{add-assoc, add-zero, le-refl, mul-comm, mul-le-mul-right, not-suc-le-zero, suc-mul, zero-add, zero-mul}
+use native.Mathlib.Numerals.{add-one}
+use native.Mathlib.Omega.{arith}
+use borrow.Author.Tests.{lt-ltb}
+use lib.Bits.{bitAnd, bitXor}
+use lib.Dec.{T, eqb, eqb→eq, ltb}
+use lib.IntN.{pos}
+use lib.ListN.{drop, getD, length, length-drop, take}
+use lib.Seq.{getD-drop, getD-take, length-take-le}
+use Rattle.morphology.specs.Image.{bitOf, imageSet, pixel, stride}
+use Rattle.morphology.specs.Labels.{place}
+use Rattle.morphology.specs.Lists.{all, count, tabulate, upTo}
+use Rattle.morphology.specs.Point.{Point, at}
+use Rattle.morphology.proofs.CountLaws.{count-le, count-none, count-suc, digit}
+use Rattle.morphology.proofs.CoverLaws.{in-upTo, of-upTo}
+use Rattle.morphology.proofs.ImageLaws.{length-row}
+use Rattle.morphology.proofs.LabelLaws.{place-at}
+use Rattle.morphology.proofs.PlaneLaws.{area-last, area-start, area-turn, areaBelow}
+use Rattle.morphology.proofs.TestLaws.{all-out}
+use Rattle.planes.proofs.SetLaws.{row-pixel}
+use Rattle.raster.specs.Rows.{rowBit}
+use Rattle.raster.proofs.ByteLaws.{less-bit}
+use Rattle.raster.proofs.LoopLaws.{Mapped}
+use Rattle.raster.proofs.PartLaws.{part-back}
+use Rattle.skeleton.specs.Turns.{Labelled, RowLabelled, lacking, leftAt}
+
+-- a pixel after the first q bytes
+pub drop-bit : (q : ℕ) (s : List ℕ) (z w : ℕ) → w ≡ 8 * q + z → rowBit s w ≡ rowBit (drop q s) z
+unfolding rowBit
+drop-bit q s z w e =
+    let a : w / 8 ≡ q + z / 8 = omega arith in
+    let m : w % 8 ≡ z % 8 = omega arith in
+    ap₂ (λ (i k : ℕ). bitOf (getD s i 0) k) a m ∙ ap (λ (n : ℕ). bitOf n (z % 8)) (sym (getD-drop q s (z / 8) 0))
+
+-- ---- one pixel
+
+-- what the code makes of the two bytes
+pub left-pixel : (s : List ℕ) (a b x : ℕ) → eqb (bitAnd (getD s (a + x / 8) 0) (bitXor (getD s (b + x / 8) 0) 255) / 2 ^ (7 - x % 8) % 2) 1 ≡ leftAt s a b x
+unfolding rowBit bitOf
+left-pixel s a b x =
+    less-bit (getD s (a + x / 8) 0) (getD s (b + x / 8) 0) (x % 8) (omega arith) ∙ ap₂ (λ (c d : Bool). c && not d) (at-byte a) (at-byte b)
+  where
+    at-byte : (c : ℕ) → bitOf (getD s (c + x / 8) 0) (x % 8) ≡ rowBit s (8 * c + x)
+    at-byte c =
+        let e : c + x / 8 ≡ (8 * c + x) / 8 = omega arith in
+        let m : x % 8 ≡ (8 * c + x) % 8 = omega arith in
+        ap₂ (λ (i k : ℕ). bitOf (getD s i 0) k) e m
+
+-- ---- one row
+
+pub count-more : (f : ℕ → Bool) (x : ℕ) → count f (upTo (x + 1)) ≡ count f (upTo x) + digit (f x)
+count-more f x = ap (λ (k : ℕ). count f (upTo k)) (add-one x) ∙ count-suc f (λ i. i) 0 x ∙ ap (λ (k : ℕ). count f (upTo x) + digit (f k)) (zero-add x)
+
+pub count-upTo : (f : ℕ → Bool) (x : ℕ) → count f (upTo x) ≤ x
+count-upTo f x = subst (λ (n : ℕ). count f (upTo x) ≤ n) (length-row (λ i. i) 0 x) (count-le f (upTo x))
+
+-- the loop's end
+pub row-labelled : (f : ℕ → Bool) (v : ℕ) (old new : List ℕ) (x n : ℕ) → x ≡ length old → Mapped (λ j. cond (f j) v (getD old j 0)) old new x → n ≡ count f (upTo x)
+    → RowLabelled 0 (length old) f v old new n
+row-labelled f v old new x n e m q = record {
+  size = m .size;
+  before = λ j l. absurd (not-suc-le-zero l);
+  after = λ j l. m .rest j (omega arith);
+  places = λ j l. ap (λ (i : ℕ). getD new i 0) (zero-add j) ∙ m .done j (omega arith) ∙ ap (λ (i : ℕ). cond (f j) v (getD old i 0)) (sym (zero-add j));
+  points = q ∙ ap (λ (k : ℕ). count f (upTo k)) e;
+}
+
+-- a row of k = w labels lent and back
+pub row-back : (at w k : ℕ) (f : ℕ → Bool) (v : ℕ) (old ys : List ℕ) (n : ℕ) → k ≡ w → at + w ≤ length old
+    → RowLabelled 0 (length (take k (drop at old))) f v (take k (drop at old)) ys n → RowLabelled at w f v old (take at old ++ (ys ++ drop k (drop at old))) n
+row-back at w k f v old ys n e h m =
+    let cut : length (take k (drop at old)) ≡ k = length-take-le k (drop at old) (omega (arith, length-drop at old)) in
+    let p = part-back at k old ys (omega arith) (m .size ∙ cut) in
+    record {
+      size = p .size;
+      before = p .before;
+      after = λ j l. p .after j (omega arith);
+      places = λ x l.
+          p .within x (omega arith) ∙ ap (λ (i : ℕ). getD ys i 0) (sym (zero-add x)) ∙ m .places x (omega arith)
+          ∙ ap (λ (i : ℕ). cond (f x) v i) (ap (λ (i : ℕ). getD (take k (drop at old)) i 0) (zero-add x) ∙ getD-take k (drop at old) x 0 (omega arith) ∙ getD-drop at old x 0);
+      points = m .points ∙ ap (λ (i : ℕ). count f (upTo i)) (cut ∙ e);
+    }
+
+-- two rows that are the same
+pub row-same : (s : List ℕ) (a b r at w v : ℕ) (old : List ℕ) → w ≤ 8 * r → all (λ i. eqb (getD s (a + i) 0) (getD s (b + i) 0)) (upTo r) ≡ true
+    → RowLabelled at w (leftAt s a b) v old old 0
+unfolding rowBit
+row-same s a b r at w v old h e = record {
+  size = refl;
+  before = λ j l. refl;
+  after = λ j l. refl;
+  places = λ x l. sym (ap (λ (c : Bool). cond c v (getD old (at + x) 0)) (none x l));
+  points = sym (count-none (leftAt s a b) (upTo w) (λ x m t. subst T (none x (of-upTo w m)) t));
+}
+  where
+    both : (c : Bool) → (c && not c) ≡ false
+    both true = refl
+    both false = refl
+
+    none : (x : ℕ) → x < w → leftAt s a b x ≡ false
+    none x l =
+        let t = all-out (λ i. eqb (getD s (a + i) 0) (getD s (b + i) 0)) (subst T (sym e) tt) (in-upTo r (x / 8) (omega arith)) in
+        let q = eqb→eq (getD s (a + x / 8) 0) (getD s (b + x / 8) 0) t in
+        let ea : (8 * a + x) / 8 ≡ a + x / 8 = omega arith in
+        let eb : (8 * b + x) / 8 ≡ b + x / 8 = omega arith in
+        let ma : (8 * a + x) % 8 ≡ (8 * b + x) % 8 = omega arith in
+        let z : rowBit s (8 * a + x) ≡ rowBit s (8 * b + x) =
+        ap₂ (λ (i k : ℕ). bitOf (getD s i 0) k) ea ma ∙ ap (λ (n : ℕ). bitOf n ((8 * b + x) % 8)) q ∙ ap (λ (i : ℕ). bitOf (getD s i 0) ((8 * b + x) % 8)) (sym eb) in
+        ap (λ (c : Bool). c && not (rowBit s (8 * b + x))) z ∙ both (rowBit s (8 * b + x))
+
+-- ---- rows of a plane
+
+pub record LabelledTo (W H : ℕ) (S : Point → Bool) (v y : ℕ) (old new : List ℕ) (found : ℕ) : Type 0 where
+  pub size : length new ≡ length old
+  pub done : (i : ℕ) → i < y * W → getD new i 0 ≡ cond (S (place W i)) v (getD old i 0)
+  pub rest : (i : ℕ) → y * W ≤ i → getD new i 0 ≡ getD old i 0
+  pub points : found ≡ areaBelow W S (y * W)
+
+pub labelled-none : (W H : ℕ) (S : Point → Bool) (v : ℕ) (old : List ℕ) → LabelledTo W H S v 0 old old 0
+labelled-none W H S v old = record {
+  size = refl;
+  done = λ i l. absurd (omega arith);
+  rest = λ i l. refl;
+  points = sym (ap (areaBelow W S) (zero-mul W) ∙ area-start W S);
+}
+
+-- the points of a row
+area-row : (W : ℕ) (S : Point → Bool) (f : ℕ → Bool) (y : ℕ) → ((x : ℕ) → x < W → f x ≡ S (at (pos x) (pos y))) → (x : ℕ) → x ≤ W
+    → areaBelow W S (y * W + x) ≡ areaBelow W S (y * W) + count f (upTo x)
+unfolding count tabulate
+area-row W S f y e zero h = ap (areaBelow W S) (add-zero (y * W)) ∙ sym (add-zero (areaBelow W S (y * W)))
+area-row W S f y e (suc x) h =
+    let q : y * W + suc x ≡ (y * W + x) + 1 = omega arith in
+    ap (areaBelow W S) q ∙ area-turn W S (y * W + x)
+    ∙ ap₂ (λ (a b : ℕ). a + b) (area-row W S f y e x (omega arith)) (ap digit (ap S (place-at W x y h) ∙ sym (e x h)))
+    ∙ add-assoc (areaBelow W S (y * W)) (count f (upTo x)) (digit (f x))
+    ∙ ap (λ (k : ℕ). areaBelow W S (y * W) + k) (sym (ap (λ (k : ℕ). count f (upTo k)) (sym (add-one x)) ∙ count-more f x))
+
+pub labelled-more : (W H : ℕ) (S : Point → Bool) (v y : ℕ) (f : ℕ → Bool) (old u u′ : List ℕ) (n k : ℕ) → ((x : ℕ) → x < W → f x ≡ S (at (pos x) (pos y)))
+    → LabelledTo W H S v y old u n → RowLabelled (y * W) W f v u u′ k → LabelledTo W H S v (y + 1) old u′ (n + k)
+labelled-more W H S v y f old u u′ n k e a b =
+    let z : (y + 1) * W ≡ y * W + W = ap (λ (i : ℕ). i * W) (add-one y) ∙ suc-mul y W in
+    record {
+      size = b .size ∙ a .size;
+      done = λ i l. by i (decLt i (y * W)) (omega arith);
+      rest = λ i l. b .after i (omega arith) ∙ a .rest i (omega arith);
+      points = ap₂ (λ (p q : ℕ). p + q) (a .points) (b .points) ∙ sym (area-row W S f y e W (le-refl W)) ∙ ap (areaBelow W S) (sym z);
+    }
+  where
+    by : (i : ℕ) → Dec (i < y * W) → i < y * W + W → getD u′ i 0 ≡ cond (S (place W i)) v (getD old i 0)
+    by i (yes l) h = b .before i l ∙ a .done i l
+    by i (no l) h =
+        let x = i - y * W in
+        let q : y * W + x ≡ i = omega arith in
+        let hx : x < W = omega arith in
+        ap (λ (j : ℕ). getD u′ j 0) (sym q) ∙ b .places x hx
+        ∙ ap₂ (λ (c : Bool) (t : ℕ). cond c v t) (e x hx ∙ ap S (sym (place-at W x y hx))) (a .rest (y * W + x) (omega arith))
+        ∙ ap (λ (j : ℕ). cond (S (place W j)) v (getD old j 0)) q
+
+pub labelled-done : (W H : ℕ) (S : Point → Bool) (v y : ℕ) (old new : List ℕ) (n : ℕ) → y ≡ H → length old ≡ W * H → LabelledTo W H S v y old new n → Labelled W H S v old new n
+labelled-done W H S v y old new n e h a =
+    let q : y * W ≡ W * H = ap (λ (i : ℕ). i * W) e ∙ mul-comm H W in
+    record {
+      size = a .size ∙ h;
+      places = λ i l. a .done i (omega arith);
+      points = a .points ∙ ap (areaBelow W S) q ∙ area-last W H S;
+    }
+
+-- a row of the two planes
+pub left-lacking : (W H r q : ℕ) (s : List ℕ) → r ≡ stride W → (y x : ℕ) → y < H → x < W → leftAt s (y * r) (q + y * r) x ≡ lacking W H q s (at (pos x) (pos y))
+unfolding imageSet
+left-lacking W H r q s e y x hy hx =
+    ap₂ (λ (c d : Bool). c && not d) (row-pixel W s r x y e ∙ inside s) (dropped ∙ row-pixel W (drop q s) r x y e ∙ inside (drop q s))
+  where
+    inside : (t : List ℕ) → pixel W t x y ≡ (ltb x W && (ltb y H && pixel W t x y))
+    inside t = sym (ap₂ (λ (c d : Bool). c && (d && pixel W t x y)) (lt-ltb x W hx) (lt-ltb y H hy))
+
+    dropped : rowBit s (8 * (q + y * r) + x) ≡ rowBit (drop q s) (8 * (y * r) + x)
+    dropped = drop-bit q s (8 * (y * r) + x) (8 * (q + y * r) + x) (omega arith)
+
+-- few enough to count
+pub below-small : (W : ℕ) (S : Point → Bool) (y : ℕ) → W ≤ 1024 → y ≤ 1024 → areaBelow W S (y * W) ≤ 1048576
+unfolding areaBelow
+below-small W S y hw hy =
+    omega (arith, subst (λ (n : ℕ). count S (tabulate (place W) 0 (y * W)) ≤ n) (length-row (place W) 0 (y * W)) (count-le S (tabulate (place W) 0 (y * W))), mul-le-mul-right W hy)

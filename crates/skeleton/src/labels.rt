@@ -1,0 +1,85 @@
+ghost use mathlib.Core.Path.{_≡_};
+ghost use mathlib.Core.Bool.{cond};
+ghost use Prim.Native.Nat.{_+_, _*_, _/_, _<_, _≤_};
+ghost use lib.ListN.{length};
+ghost use Rattle.planes.specs.Frames.{Frame};
+ghost use Rattle.skeleton.specs.Turns.{leftAt, lacking, RowLabelled, Labelled};
+
+// Whether pixel x is foreground in the row at a and not in the row at b.
+fn is_left(s: &[u8], a: usize, b: usize, x: usize) -> bool
+    requires { ⌜ (a + x / 8 < length (now s)) × (b + x / 8 < length (now s)) ⌝ }
+    ensures { λ r. ⌜ r ≡ leftAt (now (s .entry)) a b x ⌝ }
+{
+    let k = (7 - x % 8) as u32;
+    ((s[a + x / 8] & (s[b + x / 8] ^ 255)) >> k) % 2 == 1
+}
+
+fn chosen(left: bool, v: u8, old: u8) -> u8
+    ensures { λ r. ⌜ r ≡ cond left v old ⌝ }
+{
+    if left {
+        return v;
+    }
+    old
+}
+
+fn digit(left: bool) -> u32
+    ensures { λ r. ⌜ r ≡ cond left 1 0 ⌝ }
+{
+    if left {
+        return 1;
+    }
+    0
+}
+
+// v at each label whose pixel is left. Answers how many.
+fn label_row(s: &[u8], a: usize, b: usize, v: u8, labels: &mut [u8]) -> u32
+    requires { ⌜ (a + (length (now labels) + 7) / 8 ≤ length (now s)) × (b + (length (now labels) + 7) / 8 ≤ length (now s)) × (length (now labels) ≤ 1024) ⌝ }
+    ensures { λ n. ⌜ RowLabelled 0 (length (now (labels .entry))) (leftAt (now (s .entry)) a b) v (now (labels .entry)) (now (labels .exit)) n ⌝ }
+{
+    let mut n: u32 = 0;
+    let mut x: usize = 0;
+    while x < labels.len() {
+        let left = is_left(s, a, b, x);
+        labels[x] = chosen(left, v, labels[x]);
+        n = n + digit(left);
+        x = x + 1;
+    }
+    n
+}
+
+// Row y of the first plane and of the plane at q; passed over where they are the same.
+fn label_line(s: &[u8], w: usize, r: usize, q: usize, y: usize, v: u8, labels: &mut [u8]) -> u32
+    requires { ⌜ (r ≡ (w + 7) / 8) × (w ≤ 1024) × (y * r + r ≤ q) × (q + y * r + r ≤ length (now s)) × (y * w + w ≤ length (now labels)) ⌝ }
+    ensures { λ n. ⌜ RowLabelled (y * w) w (leftAt (now (s .entry)) (y * r) (q + y * r)) v (now (labels .entry)) (now (labels .exit)) n ⌝ }
+{
+    let a = y * r;
+    let b = q + a;
+    if raster::same_rows(s, a, b, r) {
+        return 0;
+    }
+    let at = y * w;
+    label_row(s, a, b, v, &mut labels[at..at + w])
+}
+
+// v at each point of the first plane that the plane at q lacks. Answers how many.
+pub fn label_plane(
+    s: &[u8],
+    w: usize,
+    h: usize,
+    r: usize,
+    q: usize,
+    v: u8,
+    labels: &mut [u8],
+) -> u32
+    requires { ⌜ Frame w h r × (h * r ≤ q) × (q + h * r ≤ length (now s)) × (length (now labels) ≡ w * h) ⌝ }
+    ensures { λ n. ⌜ Labelled w h (lacking w h q (now (s .entry))) v (now (labels .entry)) (now (labels .exit)) n ⌝ }
+{
+    let mut n: u32 = 0;
+    let mut y: usize = 0;
+    while y < h {
+        n = n + label_line(s, w, r, q, y, v, labels);
+        y = y + 1;
+    }
+    n
+}
