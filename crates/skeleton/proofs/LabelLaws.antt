@@ -114,6 +114,56 @@ row-same s a b r at w v old h e = record {
         ap₂ (λ (i k : ℕ). bitOf (getD s i 0) k) ea ma ∙ ap (λ (n : ℕ). bitOf n ((8 * b + x) % 8)) q ∙ ap (λ (i : ℕ). bitOf (getD s i 0) ((8 * b + x) % 8)) (sym eb) in
         ap (λ (c : Bool). c && not (rowBit s (8 * b + x))) z ∙ both (rowBit s (8 * b + x))
 
+-- counted up to x, and from there
+count-on : (f g : ℕ → Bool) (x m : ℕ) → ((j : ℕ) → j < m → g j ≡ f (x + j)) → count f (upTo (x + m)) ≡ count f (upTo x) + count g (upTo m)
+unfolding count tabulate
+count-on f g x zero e = ap (λ (k : ℕ). count f (upTo k)) (add-zero x) ∙ sym (add-zero (count f (upTo x)))
+count-on f g x (suc m) e =
+    let q : x + suc m ≡ (x + m) + 1 = omega arith in
+    ap (λ (k : ℕ). count f (upTo k)) q ∙ count-more f (x + m)
+    ∙ ap₂ (λ (k l : ℕ). k + l) (count-on f g x m (λ j l. e j (omega arith))) (ap digit (sym (e m (omega arith))))
+    ∙ add-assoc (count f (upTo x)) (count g (upTo m)) (digit (g m))
+    ∙ ap (λ (k : ℕ). count f (upTo x) + k) (sym (ap (λ (k : ℕ). count g (upTo k)) (sym (add-one m)) ∙ count-more g m))
+
+pub row-none : (at : ℕ) (f : ℕ → Bool) (v : ℕ) (old : List ℕ) → RowLabelled at 0 f v old old 0
+unfolding count tabulate
+row-none at f v old = record { size = refl; before = λ j l. refl; after = λ j l. refl; places = λ x l. absurd (not-suc-le-zero l); points = refl }
+
+-- m labels more
+pub row-more : (at x m : ℕ) (f g : ℕ → Bool) (v : ℕ) (old u u′ : List ℕ) (n k : ℕ) → ((j : ℕ) → j < m → g j ≡ f (x + j))
+    → RowLabelled at x f v old u n → RowLabelled (at + x) m g v u u′ k → RowLabelled at (x + m) f v old u′ (n + k)
+row-more at x m f g v old u u′ n k e a b = record {
+  size = b .size ∙ a .size;
+  before = λ j l. b .before j (omega arith) ∙ a .before j l;
+  after = λ j l. b .after j (omega arith) ∙ a .after j (omega arith);
+  places = λ j l. by j (decLt j x) l;
+  points = ap₂ (λ (p q : ℕ). p + q) (a .points) (b .points) ∙ sym (count-on f g x m e);
+}
+  where
+    by : (j : ℕ) → Dec (j < x) → j < x + m → getD u′ (at + j) 0 ≡ cond (f j) v (getD old (at + j) 0)
+    by j (yes l) h = b .before (at + j) (omega arith) ∙ a .places j l
+    by j (no l) h =
+        let i = j - x in
+        let hi : i < m = omega arith in
+        let q : at + x + i ≡ at + j = omega arith in
+        let z : x + i ≡ j = omega arith in
+        ap (λ (t : ℕ). getD u′ t 0) (sym q) ∙ b .places i hi
+        ∙ ap₂ (λ (c : Bool) (t : ℕ). cond c v t) (e i hi ∙ ap f z) (ap (λ (t : ℕ). getD u t 0) q ∙ a .after (at + j) (omega arith))
+
+-- from byte x / 8 on
+pub left-on : (s : List ℕ) (a b x j : ℕ) → x % 8 ≡ 0 → leftAt s (a + x / 8) (b + x / 8) j ≡ leftAt s a b (x + j)
+left-on s a b x j e =
+    let ea : 8 * (a + x / 8) + j ≡ 8 * a + (x + j) = omega arith in
+    let eb : 8 * (b + x / 8) + j ≡ 8 * b + (x + j) = omega arith in
+    ap₂ (λ (c d : ℕ). rowBit s c && not (rowBit s d)) ea eb
+
+pub whole-byte : (x m w : ℕ) → x % 8 ≡ 0 → m ≤ 8 → (m < 8 → m ≡ w - x) → x + m < w → (x + m) % 8 ≡ 0
+whole-byte x m w e h f l = by (decLt m 8)
+  where
+    by : Dec (m < 8) → (x + m) % 8 ≡ 0
+    by (yes k) = let q = f k in absurd (omega arith)
+    by (no k) = omega arith
+
 -- ---- rows of a plane
 
 pub record LabelledTo (W H : ℕ) (S : Point → Bool) (v y : ℕ) (old new : List ℕ) (found : ℕ) : Type 0 where

@@ -48,6 +48,43 @@ fn label_row(s: &[u8], a: usize, b: usize, v: u8, labels: &mut [u8]) -> u32
     n
 }
 
+// The m labels from at on, of one byte of each plane; passed over where the bytes are the same.
+fn label_byte(s: &[u8], a: usize, b: usize, at: usize, m: usize, v: u8, labels: &mut [u8]) -> u32
+    requires { ⌜ (a < length (now s)) × (b < length (now s)) × (m ≤ 8) × (at + m ≤ length (now labels)) ⌝ }
+    ensures { λ n. ⌜ RowLabelled at m (leftAt (now (s .entry)) a b) v (now (labels .entry)) (now (labels .exit)) n ⌝ }
+{
+    if raster::same_rows(s, a, b, 1) {
+        return 0;
+    }
+    label_row(s, a, b, v, &mut labels[at..at + m])
+}
+
+// At most 8 of n.
+fn eight(n: usize) -> usize
+    requires { ⌜ 0 < n ⌝ }
+    ensures { λ m. ⌜ (m ≤ n) × (m ≤ 8) × (0 < m) × ((m < 8) → m ≡ n) ⌝ }
+{
+    if n < 8 {
+        return n;
+    }
+    8
+}
+
+// The w labels from at on, of the rows at a and at b.
+fn label_bytes(s: &[u8], a: usize, b: usize, at: usize, w: usize, v: u8, labels: &mut [u8]) -> u32
+    requires { ⌜ (a + (w + 7) / 8 ≤ length (now s)) × (b + (w + 7) / 8 ≤ length (now s)) × (w ≤ 1024) × (at + w ≤ length (now labels)) ⌝ }
+    ensures { λ n. ⌜ RowLabelled at w (leftAt (now (s .entry)) a b) v (now (labels .entry)) (now (labels .exit)) n ⌝ }
+{
+    let mut n: u32 = 0;
+    let mut x: usize = 0;
+    while x < w {
+        let m = eight(w - x);
+        n = n + label_byte(s, a + x / 8, b + x / 8, at + x, m, v, labels);
+        x = x + m;
+    }
+    n
+}
+
 // Row y of the first plane and of the plane at q; passed over where they are the same.
 fn label_line(s: &[u8], w: usize, r: usize, q: usize, y: usize, v: u8, labels: &mut [u8]) -> u32
     requires { ⌜ (r ≡ (w + 7) / 8) × (w ≤ 1024) × (y * r + r ≤ q) × (q + y * r + r ≤ length (now s)) × (y * w + w ≤ length (now labels)) ⌝ }
@@ -58,8 +95,7 @@ fn label_line(s: &[u8], w: usize, r: usize, q: usize, y: usize, v: u8, labels: &
     if raster::same_rows(s, a, b, r) {
         return 0;
     }
-    let at = y * w;
-    label_row(s, a, b, v, &mut labels[at..at + w])
+    label_bytes(s, a, b, y * w, w, v, labels)
 }
 
 // v at each point of the first plane that the plane at q lacks. Answers how many.

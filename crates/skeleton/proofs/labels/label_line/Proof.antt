@@ -1,11 +1,10 @@
 -- `skeleton::labels::label_line` meets its contract.
 use mathlib.Core.Path.{_∙_, sym}
-use Prim.Native.Nat.{_*_, _+_, _-_}
+use Prim.Native.Nat.{_*_, _+_}
 use native.Mathlib.Omega.{arith}
 use borrow.Author.Needs.{needs}
 use denote.Ref.{now}
-use Rattle.skeleton.specs.Turns.{leftAt}
-use Rattle.skeleton.proofs.LabelLaws.{row-back, row-same}
+use Rattle.skeleton.proofs.LabelLaws.{row-same}
 use Rattle.skeleton.proofs.labels.label_line.Statement.{statement}
 use Rattle.skeleton.proofs.labels.label_line.Tie as tie
 
@@ -24,33 +23,17 @@ returns c =
     let a = s .args in
     row-same (now (a .s)) (a .y * a .r) (a .q + a .y * a .r) (a .r) (a .y * a .w) (a .w) (a .v) (now (a .labels)) (omega (arith, s .pre .0)) (sym (c .before .same-rows .ensures) ∙ c .if1 .taken)
 
-mul-at : tie.Need-mul-at
-mul-at c = search needs
+mul-label-bytes : tie.Need-mul-label-bytes
+mul-label-bytes c = search needs
 
-add-label-row : tie.Need-add-label-row
-add-label-row c = search needs
-
-sub-label-row : tie.Need-sub-label-row
-sub-label-row c = search needs
-
-part-label-row-start : tie.Need-part-label-row-start
-part-label-row-start c = search needs
-
-part-label-row-end : tie.Need-part-label-row-end
-part-label-row-end c = search needs
-
-label-row-requires : tie.Need-label-row-requires
-label-row-requires c κs = search needs
+label-bytes-requires : tie.Need-label-bytes-requires
+label-bytes-requires c κs = search needs
 
 same-length : tie.Need-same-length
 same-length c = search needs
 
 returns-2 : tie.Need-returns-2
-returns-2 c =
-    let s = c .before .before .before .before .before .before .before .before in
-    let a = s .args in
-    let at = a .y * a .w in
-    row-back at (a .w) (at + a .w - at) (leftAt (now (a .s)) (a .y * a .r) (a .q + a .y * a .r)) (a .v) (now (a .labels)) _ _ (omega arith) (s .pre .4) (c .before .before .label-row .ensures)
+returns-2 c = c .before .before .label-bytes .ensures
 
 pub label-line-spec : {M : Type 1} → statement M
 label-line-spec =
@@ -60,11 +43,7 @@ label-line-spec =
     add-b
     same-rows-requires
     returns
-    mul-at
-    add-label-row
-    sub-label-row
-    part-label-row-start
-    part-label-row-end
-    label-row-requires
+    mul-label-bytes
+    label-bytes-requires
     same-length
     returns-2)
