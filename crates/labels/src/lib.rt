@@ -3,7 +3,7 @@ ghost use mathlib.Core.Bool.{cond};
 ghost use Prim.Native.Nat.{_+_, _*_, _/_, _<_, _≤_};
 ghost use lib.ListN.{length};
 ghost use Rattle.planes.specs.Frames.{Frame};
-ghost use Rattle.skeleton.specs.Turns.{leftAt, lacking, RowLabelled, Labelled};
+ghost use Rattle.labels.specs.Labelled.{leftAt, lacking, RowLabelled, Labelled};
 
 // Whether pixel x is foreground in the row at a and not in the row at b.
 fn is_left(s: &[u8], a: usize, b: usize, x: usize) -> bool

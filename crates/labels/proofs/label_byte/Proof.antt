@@ -1,13 +1,13 @@
--- `skeleton::labels::label_byte` meets its contract.
+-- `labels::label_byte` meets its contract.
 use mathlib.Core.Path.{_∙_, sym}
 use Prim.Native.Nat.{_+_, _-_}
 use native.Mathlib.Omega.{arith}
 use borrow.Author.Needs.{needs}
 use denote.Ref.{now}
-use Rattle.skeleton.specs.Turns.{leftAt}
-use Rattle.skeleton.proofs.LabelLaws.{row-back, row-same}
-use Rattle.skeleton.proofs.labels.label_byte.Statement.{statement}
-use Rattle.skeleton.proofs.labels.label_byte.Tie as tie
+use Rattle.labels.specs.Labelled.{leftAt}
+use Rattle.labels.proofs.LabelLaws.{row-back, row-same}
+use Rattle.labels.proofs.label_byte.Statement.{statement}
+use Rattle.labels.proofs.label_byte.Tie as tie
 
 same-rows-requires : tie.Need-same-rows-requires
 same-rows-requires c κs = search needs

@@ -1,9 +1,9 @@
--- `skeleton::labels::is_left` meets its contract.
+-- `labels::is_left` meets its contract.
 use borrow.Author.Needs.{needs}
 use denote.Ref.{now}
-use Rattle.skeleton.proofs.LabelLaws.{left-pixel}
-use Rattle.skeleton.proofs.labels.is_left.Statement.{statement}
-use Rattle.skeleton.proofs.labels.is_left.Tie as tie
+use Rattle.labels.proofs.LabelLaws.{left-pixel}
+use Rattle.labels.proofs.is_left.Statement.{statement}
+use Rattle.labels.proofs.is_left.Tie as tie
 
 sub-k : tie.Need-sub-k
 sub-k c = search needs

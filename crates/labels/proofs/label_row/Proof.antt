@@ -1,4 +1,4 @@
--- `skeleton::labels::label_row` meets its contract.
+-- `labels::label_row` meets its contract.
 use mathlib.Core.Bool.{Bool, cond}
 use mathlib.Core.Path.{_∙_, _≡_, ap, ap₂, refl, sym}
 use Prim.Native.Nat.{_+_, _-_, _≤_, ℕ}
@@ -8,10 +8,10 @@ use lib.ListN.{getD, length}
 use Rattle.morphology.specs.Lists.{count, tabulate, upTo}
 use Rattle.morphology.proofs.CountLaws.{digit, digit-le}
 use Rattle.raster.proofs.LoopLaws.{Mapped, mapped-more, mapped-none}
-use Rattle.skeleton.specs.Turns.{leftAt}
-use Rattle.skeleton.proofs.LabelLaws.{count-more, count-upTo, row-labelled}
-use Rattle.skeleton.proofs.labels.label_row.Statement.{statement}
-use Rattle.skeleton.proofs.labels.label_row.Tie as tie
+use Rattle.labels.specs.Labelled.{leftAt}
+use Rattle.labels.proofs.LabelLaws.{count-more, count-upTo, row-labelled}
+use Rattle.labels.proofs.label_row.Statement.{statement}
+use Rattle.labels.proofs.label_row.Tie as tie
 
 abbrev Inv-loop : tie.InvT-loop
 Inv-loop s a b v labels₀ n₀ x₀ labels n x =

@@ -28,7 +28,7 @@ use Rattle.raster.specs.Rows.{rowBit}
 use Rattle.raster.proofs.ByteLaws.{less-bit}
 use Rattle.raster.proofs.LoopLaws.{Mapped}
 use Rattle.raster.proofs.PartLaws.{part-back}
-use Rattle.skeleton.specs.Turns.{Labelled, RowLabelled, lacking, leftAt}
+use Rattle.labels.specs.Labelled.{Labelled, RowLabelled, lacking, leftAt}
 
 -- a pixel after the first q bytes
 pub drop-bit : (q : ℕ) (s : List ℕ) (z w : ℕ) → w ≡ 8 * q + z → rowBit s w ≡ rowBit (drop q s) z

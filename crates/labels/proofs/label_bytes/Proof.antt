@@ -1,12 +1,12 @@
--- `skeleton::labels::label_bytes` meets its contract.
+-- `labels::label_bytes` meets its contract.
 use mathlib.Core.Path.{_≡_, subst}
 use Prim.Native.Nat.{_%_, _+_, _-_, _/_, _<_, _≤_, ℕ}
 use native.Mathlib.Omega.{arith}
 use denote.Ref.{now}
-use Rattle.skeleton.specs.Turns.{RowLabelled, leftAt}
-use Rattle.skeleton.proofs.LabelLaws.{count-upTo, left-on, row-more, row-none, whole-byte}
-use Rattle.skeleton.proofs.labels.label_bytes.Statement.{statement}
-use Rattle.skeleton.proofs.labels.label_bytes.Tie as tie
+use Rattle.labels.specs.Labelled.{RowLabelled, leftAt}
+use Rattle.labels.proofs.LabelLaws.{count-upTo, left-on, row-more, row-none, whole-byte}
+use Rattle.labels.proofs.label_bytes.Statement.{statement}
+use Rattle.labels.proofs.label_bytes.Tie as tie
 
 abbrev Inv-loop : tie.InvT-loop
 Inv-loop s a b at w v labels₀ n₀ x₀ labels n x = (x ≤ w) × (x < w → x % 8 ≡ 0) × RowLabelled at x (leftAt s a b) v labels₀ labels n

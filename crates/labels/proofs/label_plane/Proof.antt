@@ -1,4 +1,4 @@
--- `skeleton::labels::label_plane` meets its contract.
+-- `labels::label_plane` meets its contract.
 use Prim.Native.Nat.{_*_, _+_, _-_, _≤_}
 use native.Mathlib.Nat.{le-refl, mul-comm}
 use native.Mathlib.Omega.{arith}
@@ -6,10 +6,10 @@ use denote.Ref.{now}
 use lib.ListN.{length}
 use Rattle.morphology.specs.Image.{stride}
 use Rattle.raster.proofs.RowLaws.{row-at, row-in}
-use Rattle.skeleton.specs.Turns.{lacking, leftAt}
-use Rattle.skeleton.proofs.LabelLaws.{LabelledTo, below-small, count-upTo, labelled-done, labelled-more, labelled-none, left-lacking}
-use Rattle.skeleton.proofs.labels.label_plane.Statement.{statement}
-use Rattle.skeleton.proofs.labels.label_plane.Tie as tie
+use Rattle.labels.specs.Labelled.{lacking, leftAt}
+use Rattle.labels.proofs.LabelLaws.{LabelledTo, below-small, count-upTo, labelled-done, labelled-more, labelled-none, left-lacking}
+use Rattle.labels.proofs.label_plane.Statement.{statement}
+use Rattle.labels.proofs.label_plane.Tie as tie
 
 abbrev Inv-loop : tie.InvT-loop
 Inv-loop s w h r q v labels₀ n₀ y₀ labels n y = (y ≤ h) × LabelledTo w h (lacking w h q s) v y labels₀ labels n

@@ -1,12 +1,12 @@
--- `skeleton::labels::label_line` meets its contract.
+-- `labels::label_line` meets its contract.
 use mathlib.Core.Path.{_∙_, sym}
 use Prim.Native.Nat.{_*_, _+_}
 use native.Mathlib.Omega.{arith}
 use borrow.Author.Needs.{needs}
 use denote.Ref.{now}
-use Rattle.skeleton.proofs.LabelLaws.{row-same}
-use Rattle.skeleton.proofs.labels.label_line.Statement.{statement}
-use Rattle.skeleton.proofs.labels.label_line.Tie as tie
+use Rattle.labels.proofs.LabelLaws.{row-same}
+use Rattle.labels.proofs.label_line.Statement.{statement}
+use Rattle.labels.proofs.label_line.Tie as tie
 
 mul-a : tie.Need-mul-a
 mul-a c = search needs
