@@ -35,10 +35,10 @@ use Rattle.planes.specs.Frames.{Frame}
 use Rattle.planes.proofs.PlaneLaws.{agree-front, frame-bytes}
 use Rattle.raster.specs.Rows.{overwrite}
 use Rattle.raster.proofs.PartLaws.{PartIs, drop-overwrite, drop-past, length-overwrite, part-overwrite}
-use Rattle.skeleton.specs.Steps.{First, Ready}
+use Rattle.steps.specs.Steps.{First, Ready}
 use Rattle.labels.specs.Labelled.{Labelled, lacking}
 use Rattle.skeleton.specs.Turns.{Finished, Took, Turned, Turns}
-use Rattle.skeleton.proofs.StepLaws.{first-clean, first-image, first-zeros}
+use Rattle.steps.proofs.StepLaws.{first-clean, first-image, first-zeros}
 
 drop-zero : (l : List ℕ) → l ≡ drop 0 l
 drop-zero l = refl

@@ -1,16 +1,16 @@
 ghost use mathlib.Core.Path.{_≡_};
-ghost use mathlib.Core.List.{[], _∷_, _++_};
-ghost use Prim.Native.Nat.{_+_, _*_, _<_, _≤_, _^_};
+ghost use mathlib.Core.List.{[], _∷_};
+ghost use Prim.Native.Nat.{_+_, _*_, _≤_};
 ghost use lib.Dec.{T};
-ghost use lib.ListN.{length, replicate, take, drop};
+ghost use lib.ListN.{length, replicate};
 ghost use Rattle.morphology.specs.Answers.{outcome};
 ghost use Rattle.morphology.specs.Element.{offsets, isElement};
-ghost use Rattle.morphology.specs.Image.{imageSet, isClean, clip};
-ghost use Rattle.morphology.specs.Morphology.{erode as erodeSet, dilate as dilateSet, opening, times};
+ghost use Rattle.morphology.specs.Image.{imageSet, isClean};
+ghost use Rattle.morphology.specs.Morphology.{erode as erodeSet, opening, times};
 ghost use Rattle.morphology.specs.Operations.{cleared, eroded, opened, decomposed, foldRows, decomposeRows};
 ghost use Rattle.morphology.specs.Refusals.{firstRefusal};
 ghost use Rattle.planes.specs.Frames.{Frame};
-ghost use Rattle.skeleton.specs.Steps.{Sheet, First, HandedOut, Wrote, Ready, dilated};
+ghost use Rattle.steps.specs.Steps.{Sheet, Wrote, Ready};
 ghost use Rattle.skeleton.specs.Turns.{Turned, Took, Finished};
 ghost use Rattle.skeleton.specs.Decomposed.{answerOf as decomposedAnswer};
 ghost use Rattle.skeleton.specs.Written.{answerOf};
@@ -32,72 +32,6 @@ pub enum Decomposed {
 struct Found {
     points: u32,
     turns: u32,
-}
-
-// The first plane eroded in place, by way of the second.
-fn erode_step(w: usize, h: usize, r: usize, p: usize, element: u32, work: &mut [u8])
-    requires { ⌜ Sheet w h r p × (2 * p ≤ length (now work)) × T (isElement element) × T (isClean w h (now work)) ⌝ }
-    ensures { λ _. ⌜ First w h p (erodeSet (offsets element) (imageSet w h (now (work .entry)))) (now (work .entry)) (now (work .exit)) ⌝ }
-{
-    planes::erode_plane(w, h, r, p, element, work);
-    raster::copy_down(work, p, p);
-}
-
-// The first plane dilated in place, by way of the second, and clipped at the frame.
-fn dilate_step(w: usize, h: usize, r: usize, p: usize, element: u32, work: &mut [u8])
-    requires { ⌜ Sheet w h r p × (2 * p ≤ length (now work)) × T (isClean w h (now work)) ⌝ }
-    ensures { λ _. ⌜ First w h p (clip w h (dilateSet (offsets element) (imageSet w h (now (work .entry))))) (now (work .entry)) (now (work .exit)) ⌝ }
-{
-    planes::dilate_plane(w, h, r, p, element, work);
-    raster::copy_down(work, p, p);
-}
-
-// The first plane eroded n times in place; no more once it is empty.
-fn erode_times(w: usize, h: usize, r: usize, p: usize, element: u32, n: u32, work: &mut [u8])
-    requires { ⌜ Sheet w h r p × (2 * p ≤ length (now work)) × T (isElement element) × T (isClean w h (now work)) ⌝ }
-    ensures { λ _. ⌜ First w h p (erodeSet (times (offsets element) n) (imageSet w h (now (work .entry)))) (now (work .entry)) (now (work .exit)) ⌝ }
-{
-    let mut i: u32 = 0;
-    while i < n {
-        if !raster::has_ink(&work[..p]) {
-            return;
-        }
-        erode_step(w, h, r, p, element, work);
-        i = i + 1;
-    }
-}
-
-// The first plane dilated n times in place; not at all where it is empty.
-fn dilate_times(w: usize, h: usize, r: usize, p: usize, element: u32, n: u32, work: &mut [u8])
-    requires { ⌜ Sheet w h r p × (2 * p ≤ length (now work)) × T (isClean w h (now work)) ⌝ }
-    ensures { λ _. ⌜ First w h p (dilated w h (offsets element) n (imageSet w h (now (work .entry)))) (now (work .entry)) (now (work .exit)) ⌝ }
-{
-    if !raster::has_ink(&work[..p]) {
-        return;
-    }
-    let mut j: u32 = 0;
-    while j < n {
-        dilate_step(w, h, r, p, element, work);
-        j = j + 1;
-    }
-}
-
-// The three planes of work cleared.
-fn clear_work(p: usize, work: &mut [u8])
-    requires { ⌜ (3 * p ≤ length (now work)) × (p < 2 ^ 20) ⌝ }
-    ensures { λ _. ⌜ now (work .exit) ≡ replicate (3 * p) 0 ++ drop (3 * p) (now (work .entry)) ⌝ }
-{
-    raster::fill(&mut work[..3 * p], 0);
-}
-
-// The first plane copied to out and counted, and three planes of work cleared.
-fn hand_out(p: usize, out: &mut [u8], work: &mut [u8]) -> u32
-    requires { ⌜ (3 * p ≤ length (now work)) × (length (now out) ≡ p) × (p < 2 ^ 20) ⌝ }
-    ensures { λ n. ⌜ HandedOut p (take p (now (work .entry))) n (now (out .exit)) (now (work .entry)) (now (work .exit)) ⌝ }
-{
-    raster::copy(&work[..p], out);
-    clear_work(p, work);
-    raster::count_ones(&out[..])
 }
 
 // The first row of the table of refusals that applies to an erosion or opening; 0 if there is none.
@@ -144,8 +78,8 @@ fn erode_into(
     let r = (w + 7) / 8;
     let p = h * r;
     raster::copy(image, &mut work[..p]);
-    erode_times(w, h, r, p, element, n, work);
-    hand_out(p, out, work)
+    steps::erode_times(w, h, r, p, element, n, work);
+    steps::hand_out(p, out, work)
 }
 
 // An image that is not refused, opened by the n-fold element into out.
@@ -164,9 +98,9 @@ fn open_into(
     let r = (w + 7) / 8;
     let p = h * r;
     raster::copy(image, &mut work[..p]);
-    erode_times(w, h, r, p, element, n, work);
-    dilate_times(w, h, r, p, element, n, work);
-    hand_out(p, out, work)
+    steps::erode_times(w, h, r, p, element, n, work);
+    steps::dilate_times(w, h, r, p, element, n, work);
+    steps::hand_out(p, out, work)
 }
 
 // Erosion by the n-fold element: from image into out.
@@ -270,7 +204,7 @@ fn decompose_into(
     raster::copy(image, &mut work[..p]);
     raster::fill(labels, 0);
     let found = take_turns(w, h, r, p, element, labels, work);
-    clear_work(p, work);
+    steps::clear_work(p, work);
     found
 }
 

@@ -7,7 +7,7 @@ use denote.Ref.{now}
 use lib.ListN.{replicate}
 use lib.Seq.{length-take-le}
 use Rattle.skeleton.proofs.TurnLaws.{finished-as}
-use Rattle.skeleton.proofs.StepLaws.{loaded, ready-sheet, rest-cleared, sheet-bytes, sheet-small}
+use Rattle.steps.proofs.StepLaws.{loaded, ready-sheet, rest-cleared, sheet-bytes, sheet-small}
 use Rattle.skeleton.proofs.decompose_into.Statement.{statement}
 use Rattle.skeleton.proofs.decompose_into.Tie as tie
 

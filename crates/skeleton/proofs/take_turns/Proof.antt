@@ -10,7 +10,7 @@ use Rattle.morphology.specs.Element.{offsets}
 use Rattle.morphology.specs.Image.{imageSet}
 use Rattle.morphology.proofs.ImageLaws.{image-on}
 use Rattle.skeleton.specs.Turns.{Turns}
-use Rattle.skeleton.proofs.StepLaws.{first-start, sheet-bytes}
+use Rattle.steps.proofs.StepLaws.{first-start, sheet-bytes}
 use Rattle.skeleton.proofs.TurnLaws.{turned-le, turns-below, turns-clean, turns-found, turns-labels, turns-more, turns-over, turns-point, turns-start}
 use Rattle.skeleton.proofs.take_turns.Statement.{statement}
 use Rattle.skeleton.proofs.take_turns.Tie as tie

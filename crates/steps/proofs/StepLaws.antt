@@ -27,7 +27,7 @@ use Rattle.morphology.proofs.TestLaws.{and-r}
 use Rattle.planes.proofs.PlaneLaws.{frame-bytes}
 use Rattle.raster.specs.Rows.{overwrite}
 use Rattle.raster.proofs.PartLaws.{drop-overwrite}
-use Rattle.skeleton.specs.Steps.{First, HandedOut, Ready, Sheet, Wrote, dilated}
+use Rattle.steps.specs.Steps.{First, HandedOut, Ready, Sheet, Wrote, dilated}
 
 -- ---- sheets
 

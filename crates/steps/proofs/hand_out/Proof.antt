@@ -1,12 +1,12 @@
--- `skeleton::hand_out` meets its contract.
+-- `steps::hand_out` meets its contract.
 use mathlib.Core.Path.{_∙_, ap, sym}
 use native.Mathlib.Omega.{arith}
 use borrow.Author.Needs.{needs}
 use denote.Ref.{now}
 use lib.Seq.{length-take-le}
 use Rattle.morphology.specs.Image.{onesOf}
-use Rattle.skeleton.proofs.hand_out.Statement.{statement}
-use Rattle.skeleton.proofs.hand_out.Tie as tie
+use Rattle.steps.proofs.hand_out.Statement.{statement}
+use Rattle.steps.proofs.hand_out.Tie as tie
 
 slice-reshare-prefix-copy : tie.Need-slice-reshare-prefix-copy
 slice-reshare-prefix-copy c = search needs

@@ -1,10 +1,10 @@
--- `skeleton::dilate_step` meets its contract.
+-- `steps::dilate_step` meets its contract.
 use native.Mathlib.Omega.{arith}
 use borrow.Author.Needs.{needs}
 use denote.Ref.{now}
-use Rattle.skeleton.proofs.StepLaws.{sheet-bytes, step-done}
-use Rattle.skeleton.proofs.dilate_step.Statement.{statement}
-use Rattle.skeleton.proofs.dilate_step.Tie as tie
+use Rattle.steps.proofs.StepLaws.{sheet-bytes, step-done}
+use Rattle.steps.proofs.dilate_step.Statement.{statement}
+use Rattle.steps.proofs.dilate_step.Tie as tie
 
 dilate-plane-requires : tie.Need-dilate-plane-requires
 dilate-plane-requires c κs = let s = c .before .before in (s .pre .0 .frame, omega (arith, s .pre .0 .plane), omega (arith, s .pre .0 .plane, s .pre .1), s .pre .2)

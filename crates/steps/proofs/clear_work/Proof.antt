@@ -1,13 +1,13 @@
--- `skeleton::clear_work` meets its contract.
+-- `steps::clear_work` meets its contract.
 use mathlib.Core.Path.{sym}
 use Prim.Native.Nat.{_*_}
 use native.Mathlib.Omega.{arith}
 use borrow.Author.Needs.{needs}
 use denote.Ref.{now}
 use lib.Seq.{length-take-le}
-use Rattle.skeleton.proofs.StepLaws.{three-cleared}
-use Rattle.skeleton.proofs.clear_work.Statement.{statement}
-use Rattle.skeleton.proofs.clear_work.Tie as tie
+use Rattle.steps.proofs.StepLaws.{three-cleared}
+use Rattle.steps.proofs.clear_work.Statement.{statement}
+use Rattle.steps.proofs.clear_work.Tie as tie
 
 mul-fill : tie.Need-mul-fill
 mul-fill c = search needs

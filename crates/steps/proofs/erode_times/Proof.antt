@@ -1,4 +1,4 @@
--- `skeleton::erode_times` meets its contract.
+-- `steps::erode_times` meets its contract.
 use mathlib.Core.Path.{_∙_, _≡_, ap, subst, sym}
 use Prim.Native.Nat.{_-_, _≤_, ℕ}
 use native.Mathlib.Omega.{arith}
@@ -10,10 +10,10 @@ use Rattle.morphology.specs.Image.{imageSet, pack}
 use Rattle.morphology.specs.Morphology.{erode, times}
 use Rattle.morphology.proofs.ImageLaws.{image-on}
 use Rattle.morphology.proofs.MorphologyLaws.{eroded-zero}
-use Rattle.skeleton.specs.Steps.{First}
-use Rattle.skeleton.proofs.StepLaws.{eroded-clean, eroded-more, eroded-rest, first-as, first-start, sheet-bytes}
-use Rattle.skeleton.proofs.erode_times.Statement.{statement}
-use Rattle.skeleton.proofs.erode_times.Tie as tie
+use Rattle.steps.specs.Steps.{First}
+use Rattle.steps.proofs.StepLaws.{eroded-clean, eroded-more, eroded-rest, first-as, first-start, sheet-bytes}
+use Rattle.steps.proofs.erode_times.Statement.{statement}
+use Rattle.steps.proofs.erode_times.Tie as tie
 
 abbrev Inv-loop : tie.InvT-loop
 Inv-loop w h r p element n work₀ i₀ work i = (i ≤ n) × First w h p (erode (times (offsets element) i) (imageSet w h work₀)) work₀ work

@@ -1,4 +1,4 @@
--- `skeleton::dilate_times` meets its contract.
+-- `steps::dilate_times` meets its contract.
 use mathlib.Core.Path.{_∙_, _≡_, refl, subst, sym}
 use Prim.Native.Nat.{_-_, _≤_, ℕ}
 use native.Mathlib.Omega.{arith}
@@ -8,10 +8,10 @@ use lib.Seq.{length-take-le}
 use Rattle.morphology.specs.Element.{offsets}
 use Rattle.morphology.specs.Image.{imageSet}
 use Rattle.morphology.proofs.ImageLaws.{image-on}
-use Rattle.skeleton.specs.Steps.{First, dilated}
-use Rattle.skeleton.proofs.StepLaws.{dilated-more, dilated-on, dilated-rest, dilated-start, first-clean, first-start, sheet-bytes}
-use Rattle.skeleton.proofs.dilate_times.Statement.{statement}
-use Rattle.skeleton.proofs.dilate_times.Tie as tie
+use Rattle.steps.specs.Steps.{First, dilated}
+use Rattle.steps.proofs.StepLaws.{dilated-more, dilated-on, dilated-rest, dilated-start, first-clean, first-start, sheet-bytes}
+use Rattle.steps.proofs.dilate_times.Statement.{statement}
+use Rattle.steps.proofs.dilate_times.Tie as tie
 
 abbrev Inv-loop : tie.InvT-loop
 Inv-loop w h r p element n work₀ j₀ work j = (j ≤ n) × First w h p (dilated w h (offsets element) j (imageSet w h work₀)) work₀ work

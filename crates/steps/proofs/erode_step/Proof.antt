@@ -1,11 +1,11 @@
--- `skeleton::erode_step` meets its contract.
+-- `steps::erode_step` meets its contract.
 use native.Mathlib.Omega.{arith}
 use borrow.Author.Needs.{needs}
 use denote.Ref.{now}
 use Rattle.planes.proofs.SideLaws.{element-bit}
-use Rattle.skeleton.proofs.StepLaws.{sheet-bytes, step-done}
-use Rattle.skeleton.proofs.erode_step.Statement.{statement}
-use Rattle.skeleton.proofs.erode_step.Tie as tie
+use Rattle.steps.proofs.StepLaws.{sheet-bytes, step-done}
+use Rattle.steps.proofs.erode_step.Statement.{statement}
+use Rattle.steps.proofs.erode_step.Tie as tie
 
 erode-plane-requires : tie.Need-erode-plane-requires
 erode-plane-requires c κs = let s = c .before .before in (s .pre .0 .frame, omega (arith, s .pre .0 .plane), omega (arith, s .pre .0 .plane, s .pre .1), element-bit (s .args .element) (s .pre .2), s .pre .3)
