@@ -240,14 +240,6 @@ pub start-bit : (t : Bool) (n x : ℕ) → x < 8 * n → rowBit (replicate n (st
 start-bit true n x h = zeros-bit n x
 start-bit false n x h = full-row n x h
 
--- a row of k = r bytes cut off at w
-pub row-cut : (d r k w : ℕ) (old ys : List ℕ) → k ≡ r → d + r ≤ length old → Pixelwise (take k (drop d old)) ys (λ x b. b && ltb x w)
-    → RowIs d r old (take d old ++ (ys ++ drop k (drop d old))) (λ x. rowBit old (8 * d + x) && ltb x w)
-row-cut d r k w old ys q h m =
-    let cut : length (take k (drop d old)) ≡ k = length-take-le k (drop d old) (omega (arith, length-drop d old)) in
-    row-part d r k old ys (λ x. rowBit old (8 * d + x) && ltb x w) q h (m .size ∙ cut)
-    (λ x l. m .pixels x (omega arith) ∙ ap (λ (b : Bool). b && ltb x w) (cut-bit d k old x (omega arith)))
-
 -- an empty row of the element asks nothing
 pub joined-unit : (t : Bool) (n : ℕ) (f : ℕ → Bool) → ((i : ℕ) → i < n → f i ≡ not t) → joined t n f ≡ not t
 unfolding joined

@@ -25,7 +25,7 @@ use Rattle.raster.specs.Rows.{overwrite, rowBit}
 use Rattle.raster.proofs.PartLaws.{cut-bit, drop-overwrite, length-overwrite, overwrite-is, overwrite-rest}
 use Rattle.raster.proofs.RowLaws.{row-in}
 use Rattle.planes.specs.Frames.{Frame, morphed}
-use Rattle.planes.specs.Neighbours.{RowsTo, neighbours}
+use Rattle.planes.specs.Neighbours.{PlaneIs, RowsTo, nearBit, neighbours}
 use Rattle.planes.proofs.SetLaws.{near-image, neighbours-set, pack-pixels}
 
 -- ---- frames
@@ -72,12 +72,11 @@ cut-swap true false false e = refl
 cut-swap false true false e = refl
 cut-swap false false false e = refl
 
-pub plane-done : (t : Bool) (W H r p e : ℕ) (old new : List ℕ) → Frame W H r → H * r ≤ p → p + H * r ≤ length old → T (isClean W H old)
-    → ((i : ℕ) → getD new i 0 < 256)
-    → RowsTo t H p W r H e old new → new ≡ overwrite p (pack W H (clip W H (morphed t (offsets e) (imageSet W H old)))) old
-unfolding clip
-plane-done t W H r p e old new f hp h clean bytes m =
-    overwrite-is p n old ys new (length-pack W H Y ∙ sym (frame-bytes f)) h (record {
+-- a plane whose pixels are those of a set, padding included
+pub plane-packed : (W H r p : ℕ) (X : Point → Bool) (g : ℕ → ℕ → Bool) (old new : List ℕ) → Frame W H r → p + H * r ≤ length old → ((i : ℕ) → getD new i 0 < 256)
+    → PlaneIs p r H old new g → ((y x : ℕ) → y < H → x < 8 * r → g y x ≡ X (at (pos x) (pos y))) → new ≡ overwrite p (pack W H X) old
+plane-packed W H r p X g old new f h bytes m e =
+    overwrite-is p n old (pack W H X) new (length-pack W H X ∙ sym (frame-bytes f)) h (record {
       size = m .size;
       within = λ j l. sym (getD-drop p new j 0) ∙ sym (getD-take n (drop p new) j 0 l) ∙ ap (λ (s : List ℕ). getD s j 0) (sym written);
       before = m .before;
@@ -87,31 +86,30 @@ plane-done t W H r p e old new f hp h clean bytes m =
     n : ℕ
     n = H * r
 
-    S : Point → Bool
-    S = imageSet W H old
-
-    Y : Point → Bool
-    Y = clip W H (morphed t (offsets e) S)
-
-    ys : List ℕ
-    ys = pack W H Y
-
-    bits : (r : ℕ) → r ≡ stride W → RowsTo t H p W r H e old new → (y x : ℕ) → y < H → x < 8 * r
-        → rowBit (take (H * r) (drop p new)) (8 * (y * r) + x) ≡ Y (at (pos x) (pos y))
-    bits r q m y x hy hx =
+    bits : (y x : ℕ) → y < H → x < 8 * r → rowBit (take n (drop p new)) (8 * (y * r) + x) ≡ X (at (pos x) (pos y))
+    bits y x hy hx =
         let i = row-in y H r (H * r) hy (le-refl (H * r)) in
         let z : 8 * p + (8 * (y * r) + x) ≡ 8 * (p + y * r) + x = omega arith in
-        cut-bit p (H * r) new (8 * (y * r) + x) (omega arith) ∙ ap (rowBit new) z ∙ m .pixels y x hy hx
-        ∙ ap (λ (b : Bool). b && ltb x W) ((λ i. neighbours t e (λ X Y. near-image W H r old q clean X Y i) x y) ∙ neighbours-set t e S x y)
-        ∙ cut-swap (morphed t (offsets e) S (at (pos x) (pos y))) (ltb x W) (ltb y H) (lt-ltb y H hy)
+        cut-bit p n new (8 * (y * r) + x) (omega (arith, i)) ∙ ap (rowBit new) z ∙ m .pixels y x hy hx ∙ e y x hy hx
 
-    written : pack W H Y ≡ take n (drop p new)
+    written : pack W H X ≡ take n (drop p new)
     written =
         let sz = m .size in
-        pack-pixels W H Y (take n (drop p new))
+        pack-pixels W H X (take n (drop p new))
         (length-take-le n (drop p new) (omega (arith, length-drop p new)) ∙ frame-bytes f)
         (part-bytes p n new bytes (omega arith))
-        (subst (λ (k : ℕ). (y x : ℕ) → y < H → x < 8 * k → rowBit (take n (drop p new)) (8 * (y * k) + x) ≡ Y (at (pos x) (pos y))) (f .row) (bits r (f .row) m))
+        (subst (λ (k : ℕ). (y x : ℕ) → y < H → x < 8 * k → rowBit (take n (drop p new)) (8 * (y * k) + x) ≡ X (at (pos x) (pos y))) (f .row) bits)
+
+pub plane-done : (t : Bool) (W H r p e : ℕ) (old new : List ℕ) → Frame W H r → p + H * r ≤ length old → T (isClean W H old)
+    → ((i : ℕ) → getD new i 0 < 256)
+    → RowsTo t H p W r H e old new → new ≡ overwrite p (pack W H (clip W H (morphed t (offsets e) (imageSet W H old)))) old
+unfolding clip
+plane-done t W H r p e old new f h clean bytes m =
+    let S = imageSet W H old in
+    plane-packed W H r p (clip W H (morphed t (offsets e) S)) (λ y x. neighbours t e (nearBit old r H) x y && ltb x W) old new f h bytes
+    (record { size = m .size; before = m .before; after = m .after; pixels = m .pixels }) (λ y x hy hx.
+    ap (λ (b : Bool). b && ltb x W) ((λ i. neighbours t e (λ X Y. near-image W H r old (f .row) clean X Y i) x y) ∙ neighbours-set t e S x y)
+    ∙ cut-swap (morphed t (offsets e) S (at (pos x) (pos y))) (ltb x W) (ltb y H) (lt-ltb y H hy))
 
 -- with the origin in the element, an eroded image lies on the frame
 pub erosion-done : (W H r p e : ℕ) (old new : List ℕ) → Frame W H r → H * r ≤ p → p + H * r ≤ length old → T (bit e 12) → T (isClean W H old)
@@ -119,7 +117,7 @@ pub erosion-done : (W H r p e : ℕ) (old new : List ℕ) → Frame W H r → H 
     → RowsTo false H p W r H e old new → new ≡ overwrite p (pack W H (erode (offsets e) (imageSet W H old))) old
 erosion-done W H r p e old new f hp h o clean bytes m =
     let S = imageSet W H old in
-    plane-done false W H r p e old new f hp h clean bytes m
+    plane-done false W H r p e old new f h clean bytes m
     ∙ ap (λ (X : Point → Bool). overwrite p (pack W H X) old) (clip-is W H (erode (offsets e) S) (erode-on W H e S o (image-on W H old)))
 
 -- ---- an opening: the planes from the second on lent as one part

@@ -239,14 +239,16 @@ plane-started t p r h k n v old ys q hp hn hv m =
           ∙ ap (λ (s : List ℕ). rowBit s (8 * (y * r) + x)) (m ∙ ap (replicate n) hv) ∙ start-bit t n (8 * (y * r) + x) (omega (arith, i));
     }
 
-pub cut-none : (p r w : ℕ) (v : List ℕ) → PlaneIs p r 0 v v (λ y x. rowBit v (8 * (p + y * r) + x) && ltb x w)
-cut-none p r w v = record { size = refl; before = λ j z. refl; after = λ j z. refl; pixels = λ y x a b. absurd (not-suc-le-zero a) }
+-- ---- a plane changed row by row: g y x of pixel x of row y
 
--- one row more cut off at w
-pub cut-more : (p r m w : ℕ) (u v v′ : List ℕ) → PlaneIs p r m u v (λ y x. rowBit u (8 * (p + y * r) + x) && ltb x w)
-    → RowIs (p + m * r) r v v′ (λ x. rowBit v (8 * (p + m * r) + x) && ltb x w)
-    → PlaneIs p r (m + 1) u v′ (λ y x. rowBit u (8 * (p + y * r) + x) && ltb x w)
-cut-more p r m w u v v′ a b =
+pub rows-none : (p r : ℕ) (v : List ℕ) (g : ℕ → ℕ → Bool → Bool) → PlaneIs p r 0 v v (λ y x. g y x (rowBit v (8 * (p + y * r) + x)))
+rows-none p r v g = record { size = refl; before = λ j z. refl; after = λ j z. refl; pixels = λ y x a b. absurd (not-suc-le-zero a) }
+
+-- one row more
+pub rows-more : (p r m : ℕ) (u v v′ : List ℕ) (g : ℕ → ℕ → Bool → Bool) → PlaneIs p r m u v (λ y x. g y x (rowBit u (8 * (p + y * r) + x)))
+    → RowIs (p + m * r) r v v′ (λ x. g m x (rowBit v (8 * (p + m * r) + x)))
+    → PlaneIs p r (m + 1) u v′ (λ y x. g y x (rowBit u (8 * (p + y * r) + x)))
+rows-more p r m u v v′ g a b =
     let n : (m + 1) * r ≡ m * r + r = ap (λ (k : ℕ). k * r) (add-one m) ∙ suc-mul m r in
     record {
       size = b .size ∙ a .size;
@@ -255,15 +257,15 @@ cut-more p r m w u v v′ a b =
       pixels = λ y x c d. by y x (decLt y m) c d;
     }
   where
-    by : (y x : ℕ) → Dec (y < m) → y < m + 1 → x < 8 * r → rowBit v′ (8 * (p + y * r) + x) ≡ (rowBit u (8 * (p + y * r) + x) && ltb x w)
+    by : (y x : ℕ) → Dec (y < m) → y < m + 1 → x < 8 * r → rowBit v′ (8 * (p + y * r) + x) ≡ g y x (rowBit u (8 * (p + y * r) + x))
     by y x (yes c) d e =
         let i = row-in y m r (m * r) c (le-refl (m * r)) in
         rowBit-same v′ v (8 * (p + y * r) + x) (b .before ((8 * (p + y * r) + x) / 8) (omega (arith, i))) ∙ a .pixels y x c e
     by y x (no c) d e =
         let q : y ≡ m = omega arith in
         ap (λ (n : ℕ). rowBit v′ (8 * (p + n * r) + x)) q ∙ b .pixels x e
-        ∙ ap (λ (c : Bool). c && ltb x w) (rowBit-same v u (8 * (p + m * r) + x) (a .after ((8 * (p + m * r) + x) / 8) (omega arith)))
-        ∙ ap (λ (n : ℕ). rowBit u (8 * (p + n * r) + x) && ltb x w) (sym q)
+        ∙ ap (g m x) (rowBit-same v u (8 * (p + m * r) + x) (a .after ((8 * (p + m * r) + x) / 8) (omega arith)))
+        ∙ ap (λ (n : ℕ). g n x (rowBit u (8 * (p + n * r) + x))) (sym q)
 
 -- a plane begun, joined and cut off
 pub plane-done : (t : Bool) (p r h w e rest : ℕ) (v₀ v₁ v₂ v₃ : List ℕ) → h * r ≤ p → Begun t p r h e rest v₀ v₁

@@ -162,13 +162,17 @@ row-part d r k old ys g e h len m =
 pub row-copied : (d r : ℕ) (old new : List ℕ) → PartIs d r old old new → RowIs d r old new (rowBit old)
 row-copied d r old new p = record { size = p .size; before = p .before; after = p .after; pixels = λ x l. part-bit p x l }
 
--- f joined to a row, lent as a part of k = r bytes and back
+-- a row changed pixel by pixel, lent as a part of k = r bytes and back
+pub pixelwise-part : (d r k : ℕ) (old ys : List ℕ) (g : ℕ → Bool → Bool) → k ≡ r → d + r ≤ length old → Pixelwise (take k (drop d old)) ys g
+    → RowIs d r old (take d old ++ (ys ++ drop k (drop d old))) (λ x. g x (rowBit old (8 * d + x)))
+pixelwise-part d r k old ys g e h m =
+    let cut : length (take k (drop d old)) ≡ k = length-take-le k (drop d old) (omega (arith, length-drop d old)) in
+    row-part d r k old ys (λ x. g x (rowBit old (8 * d + x))) e h (m .size ∙ cut) (λ x l. m .pixels x (omega arith) ∙ ap (g x) (cut-bit d k old x (omega arith)))
+
+-- f joined to it
 pub joined-part : (t : Bool) (d r k : ℕ) (old ys : List ℕ) (f : ℕ → Bool) → k ≡ r → d + r ≤ length old → RowJoined t (take k (drop d old)) ys f
     → RowIs d r old (take d old ++ (ys ++ drop k (drop d old))) (λ x. join t (rowBit old (8 * d + x)) (f x))
-joined-part t d r k old ys f e h m =
-    let cut : length (take k (drop d old)) ≡ k = length-take-le k (drop d old) (omega (arith, length-drop d old)) in
-    row-part d r k old ys (λ x. join t (rowBit old (8 * d + x)) (f x)) e h (m .size ∙ cut)
-    (λ x l. m .pixels x (omega arith) ∙ ap (λ (b : Bool). join t b (f x)) (cut-bit d k old x (omega arith)))
+joined-part t d r k old ys f e h m = pixelwise-part d r k old ys (λ x b. join t b (f x)) e h m
 
 -- a row of a plane, the plane of k bytes lent from the middle of work and back
 pub lift : (p k at r : ℕ) (work ys : List ℕ) (g : ℕ → Bool) → p + k ≤ length work → at + r ≤ k → RowIs at r (take k (drop p work)) ys g

@@ -8,9 +8,9 @@ use lib.Dec.{ltb}
 use lib.ListN.{drop, length, length-drop}
 use lib.Seq.{length-take-le}
 use Rattle.planes.specs.Neighbours.{PlaneIs}
-use Rattle.planes.proofs.NeighbourLaws.{row-cut}
-use Rattle.planes.proofs.ScatterLaws.{cut-more, cut-none}
+use Rattle.planes.proofs.ScatterLaws.{rows-more, rows-none}
 use Rattle.raster.specs.Rows.{rowBit}
+use Rattle.raster.proofs.PartLaws.{pixelwise-part}
 use Rattle.raster.proofs.RowLaws.{row-at}
 use Rattle.planes.proofs.clear_rows.Statement.{statement}
 use Rattle.planes.proofs.clear_rows.Tie as tie
@@ -22,7 +22,7 @@ abbrev μ-loop : tie.MeasureT-loop
 μ-loop work₀ p w r h y₀ work y = h - y
 
 loop-holds : tie.Need-loop-holds Inv-loop μ-loop
-loop-holds c = let a = c .before .args in (omega arith, cut-none (a .p) (a .r) (a .w) (now (a .work)))
+loop-holds c = let a = c .before .args in (omega arith, rows-none (a .p) (a .r) (now (a .work)) (λ y x b. b && ltb x (a .w)))
 
 mul-d : tie.Need-mul-d Inv-loop μ-loop
 mul-d c =
@@ -78,8 +78,8 @@ loop-again c =
     let d = a .p + l .y * a .r in
     let i = row-at (a .p) (l .y) (a .h) (a .r) (length (now (a .work))) (c .before .before .before .before .loop-test .taken) (s .pre .0) in (
       omega arith,
-      cut-more (a .p) (a .r) (l .y) (a .w) (now (a .work)) (l .work) _ (l .inv .1)
-          (row-cut d (a .r) (d + a .r - d) (a .w) (l .work) _ (omega arith) (omega (arith, i, l .inv .1 .size)) (c .before .before .clear-padding .ensures)),
+      rows-more (a .p) (a .r) (l .y) (now (a .work)) (l .work) _ (λ y x b. b && ltb x (a .w)) (l .inv .1)
+          (pixelwise-part d (a .r) (d + a .r - d) (l .work) _ (λ x b. b && ltb x (a .w)) (omega arith) (omega (arith, i, l .inv .1 .size)) (c .before .before .clear-padding .ensures)),
     )
 
 same-length : tie.Need-same-length Inv-loop μ-loop

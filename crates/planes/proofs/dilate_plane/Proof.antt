@@ -19,7 +19,7 @@ returns : tie.Need-returns
 returns c =
     let s = c .before .before .before .before .before in
     let a = s .args in
-    plane-done true (a .w) (a .h) (a .r) (a .p) (a .element) (now (a .work)) _ (s .pre .0) (s .pre .1) (s .pre .2) (s .pre .3) (λ i. c .slice-known2 .given i .fits) (c .before .before .morph-plane .ensures)
+    plane-done true (a .w) (a .h) (a .r) (a .p) (a .element) (now (a .work)) _ (s .pre .0) (s .pre .2) (s .pre .3) (λ i. c .slice-known2 .given i .fits) (c .before .before .morph-plane .ensures)
 
 pub dilate-plane-spec : {M : Type 1} → statement M
 dilate-plane-spec = tie.close (tie.spec morph-plane-requires same-length returns)
