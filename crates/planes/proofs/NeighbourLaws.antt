@@ -13,10 +13,10 @@ use lib.ListN.{List·getD-eq-default, drop, getD, getD-replicate, length, length
 use lib.Seq.{length-take-le}
 use Rattle.morphology.specs.Element.{bit}
 use Rattle.morphology.specs.Image.{bitOf}
-use Rattle.raster.specs.Rows.{Pixelwise, RowIs, RowJoined, join, rowBit}
+use Rattle.raster.specs.Rows.{RowJoined, join, rowBit}
 use Rattle.morphology.proofs.TestLaws.{and-l, and-r}
 use Rattle.raster.proofs.ByteLaws.{full-bit, zero-bit}
-use Rattle.raster.proofs.PartLaws.{PartIs, cut-bit, part-back, part-bit, row-part}
+use Rattle.raster.proofs.PartLaws.{PartIs, cut-bit, part-back, part-bit}
 use Rattle.raster.proofs.RowLaws.{row-in, rowBit-same}
 use Rattle.planes.specs.Neighbours.{Margins, NearRow, fiveOf, isNear, joined, nearBit, startByte, turned}
 

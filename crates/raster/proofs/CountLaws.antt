@@ -72,7 +72,7 @@ or-assoc : (a b c : Bool) → (a || (b || c)) ≡ ((a || b) || c)
 or-assoc true b c = refl
 or-assoc false b c = refl
 
-any-suc : (p : ℕ → Bool) (l : List ℕ) (i : ℕ) → i < length l → any p (take (suc i) l) ≡ (any p (take i l) || p (getD l i 0))
+pub any-suc : (p : ℕ → Bool) (l : List ℕ) (i : ℕ) → i < length l → any p (take (suc i) l) ≡ (any p (take i l) || p (getD l i 0))
 any-suc p [] i h = absurd (not-suc-le-zero h)
 any-suc p (b ∷ l) zero h = or-false (p b)
   where

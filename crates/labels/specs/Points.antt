@@ -1,0 +1,17 @@
+-- Points read from labels. Definitions only; proofs/PointLaws.antt has the laws.
+use mathlib.Core.Bool.{Bool, _&&_, _||_}
+use mathlib.Core.List.{List}
+use Prim.Native.Nat.{ℕ}
+use lib.Dec.{eqb, ltb}
+use lib.ListN.{getD, length}
+use Rattle.morphology.specs.Image.{imageSet}
+use Rattle.morphology.specs.Labels.{labelAt}
+use Rattle.morphology.specs.Point.{Point}
+
+-- label x of a row is v; none is past its end
+unfoldable pub isLabel : List ℕ → ℕ → (ℕ → Bool)
+isLabel row v x = ltb x (length row) && eqb (getD row x 0) v
+
+-- the points with label v, and those of a plane
+abbrev pub withPoints : ℕ → ℕ → List ℕ → ℕ → List ℕ → (Point → Bool)
+withPoints W H labels v plane z = eqb (labelAt W H labels z) v || imageSet W H plane z
