@@ -24,7 +24,6 @@ pub mod CoverCountLaws
 pub mod OutcomeLaws
 pub mod WildTurns
 pub mod FoldTurns
-pub mod ReconstructTurns
 pub mod MinimiseTurns
 pub mod ThinTurns
 pub mod Cases

@@ -14,6 +14,7 @@ use Rattle.morphology.specs.Image.{imageSet, inside, onFrame, pack}
 use Rattle.morphology.specs.Labels.{labelAt, places}
 use Rattle.morphology.specs.Lists.{all, any}
 use Rattle.morphology.specs.Morphology.{dilate, times}
+use Rattle.morphology.specs.Partial.{partialStamp, partialUnion}
 use Rattle.morphology.specs.Point.{Point, _⊞_, at, origin, samePoint}
 use Rattle.morphology.specs.Refusals.{isWild, leaves}
 use Rattle.morphology.specs.Skeleton.{reconstruct, reconstruction}
@@ -42,14 +43,6 @@ times-mono B ob n m {c} h k =
     (Memᴰ·cast (sym (unit c)) (times-add B n (m - n) .to (sum-in (times B n) (times B (m - n)) k (origin-times B ob (m - n)))))
 
 -- ---- the union that is still to be dilated n times
-
--- what a point p with this label adds: (j - n)B moved to p, where its size j is n or more
-unfoldable pub partialStamp : List Point → ℕ → Point → ℕ → (Point → Bool)
-partialStamp B n p zero z = false
-partialStamp B n p (suc j) z = leb n j && any (λ c. samePoint z (p ⊞ c)) (times B (j - n))
-
-unfoldable pub partialUnion : ℕ → ℕ → List Point → ℕ → (Point → ℕ) → (Point → Bool)
-partialUnion W H B n M z = any (λ p. partialStamp B n p (M p) z) (places W H)
 
 stamp-at : (B : List Point) (n : ℕ) (p : Point) (l : ℕ) (z : Point) → T (partialStamp B n p l z)
     → (j : ℕ) × (c : Point) × (l ≡ suc j) × (n ≤ j) × List·Memᴰ c (times B (j - n)) × (z ≡ p ⊞ c)
@@ -183,7 +176,7 @@ label-on W H m p j e = by (p .x) (p .y) e
     by (negsuc x) y q = absurd (suc-ne-zero j (sym q))
 
 module _ (W H : ℕ) (B : List Point) (el : Element B) (m : List ℕ) where
-  abbrev pub unionAt : ℕ → (Point → Bool)
+  abbrev unionAt : ℕ → (Point → Bool)
   unionAt n = partialUnion W H B n (labelAt W H m)
 
   pub union-turn : (n : ℕ) → unionAt n ≡ (λ z. eqb (labelAt W H m z) (suc n) || dilate B (unionAt (suc n)) z)

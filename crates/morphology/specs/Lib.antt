@@ -13,4 +13,5 @@ pub mod Answers
 pub mod Refusals
 pub mod Operations
 pub mod Extent
+pub mod Partial
 pub mod Cases

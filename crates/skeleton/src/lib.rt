@@ -1,16 +1,18 @@
 ghost use mathlib.Core.Path.{_≡_};
 ghost use mathlib.Core.List.{[], _∷_};
-ghost use Prim.Native.Nat.{_+_, _*_, _≤_};
+ghost use Prim.Native.Nat.{_+_, _*_, _<_, _≤_};
 ghost use lib.Dec.{T};
-ghost use lib.ListN.{length, replicate};
+ghost use lib.ListN.{length, replicate, take};
 ghost use Rattle.morphology.specs.Answers.{outcome};
 ghost use Rattle.morphology.specs.Element.{offsets, isElement};
 ghost use Rattle.morphology.specs.Image.{imageSet, isClean};
 ghost use Rattle.morphology.specs.Morphology.{erode as erodeSet, opening, times};
 ghost use Rattle.morphology.specs.Operations.{cleared, eroded, opened, decomposed, foldRows, decomposeRows};
 ghost use Rattle.morphology.specs.Refusals.{firstRefusal};
+ghost use Rattle.morphology.specs.Skeleton.{reconstruction};
 ghost use Rattle.planes.specs.Frames.{Frame};
-ghost use Rattle.steps.specs.Steps.{Sheet, Wrote, Ready};
+ghost use Rattle.steps.specs.Steps.{First, Sheet, Wrote, Ready};
+ghost use Rattle.skeleton.specs.Gathered.{Kept, Tame, gathered, grown};
 ghost use Rattle.skeleton.specs.Turns.{Turned, Took, Finished};
 ghost use Rattle.skeleton.specs.Decomposed.{answerOf as decomposedAnswer};
 ghost use Rattle.skeleton.specs.Written.{answerOf};
@@ -257,4 +259,55 @@ pub fn decompose(
         points: found.points,
         largest: turns - 1,
     }
+}
+
+// One size of a reconstruction: the first plane dilated, and the points with label v joined to it.
+fn grow(w: usize, h: usize, r: usize, p: usize, element: u32, v: u8, labels: &[u8], work: &mut [u8])
+    requires { ⌜ Sheet w h r p × (2 * p ≤ length (now work)) × (0 < v) × (length (now labels) ≡ w * h) × T (isClean w h (now work)) ⌝ }
+    ensures { λ _. ⌜ First w h p (grown w h (offsets element) (now (labels .entry)) v (now (work .entry))) (now (work .entry)) (now (work .exit)) ⌝ }
+{
+    steps::dilate_times(w, h, r, p, element, 1, work);
+    labels::points::add_points(labels, w, h, r, v, &mut work[..p]);
+}
+
+// The sizes from the largest down to the cut, gathered in an empty first plane.
+fn gather(
+    w: usize,
+    h: usize,
+    r: usize,
+    p: usize,
+    element: u32,
+    cut: u32,
+    labels: &[u8],
+    work: &mut [u8],
+)
+    requires { ⌜ Sheet w h r p × (2 * p ≤ length (now work)) × Tame w h element cut (now labels) × (take p (now work) ≡ replicate p 0) ⌝ }
+    ensures { λ _. ⌜ First w h p (gathered w h (offsets element) (now (labels .entry)) cut) (now (work .entry)) (now (work .exit)) ⌝ }
+{
+    let mut n = labels::points::greatest(labels) as u32;
+    while cut < n {
+        grow(w, h, r, p, element, n as u8, labels, work);
+        n = n - 1;
+    }
+}
+
+// Labels that are not refused, reconstructed at a cut into image.
+fn reconstruct_into(
+    w: usize,
+    h: usize,
+    element: u32,
+    cut: u32,
+    labels: &[u8],
+    image: &mut [u8],
+    work: &mut [u8],
+) -> u32
+    requires { ⌜ Kept w h element cut (now labels) (now image) (now work) ⌝ }
+    ensures { λ a. ⌜ Wrote w h (reconstruction w h (offsets element) cut (now (labels .entry))) a (now (image .exit)) (now (work .entry)) (now (work .exit)) ⌝ }
+{
+    let r = (w + 7) / 8;
+    let p = h * r;
+    raster::fill(&mut work[..p], 0);
+    gather(w, h, r, p, element, cut, labels, work);
+    steps::dilate_times(w, h, r, p, element, cut, work);
+    steps::hand_out(p, image, work)
 }

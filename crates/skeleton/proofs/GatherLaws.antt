@@ -1,0 +1,161 @@
+-- Labels reconstructed size by size.
+use mathlib.Core.Bool.{Bool, _&&_, _||_, cond, false, true}
+use mathlib.Core.List.{List, _++_}
+use mathlib.Core.Path.{_∙_, _≡_, ap, ap₂, refl, subst, sym}
+use Prim.Native.Nat.{_*_, _+_, _-_, _/_, _<_, _≤_, max, suc, zero-le, ℕ}
+use native.Mathlib.Nat.{le-refl}
+use native.Mathlib.Omega.{arith}
+use lib.Dec.{T, eqb, ltb}
+use lib.IntN.{negsuc, pos, ℤ}
+use lib.ListN.{drop, getD, length, length-append, length-drop, length-replicate, replicate, take}
+use lib.Seq.{drop-at, drop-drop, getD-take, length-take-le, take-at}
+use Rattle.morphology.specs.Element.{offsets}
+use Rattle.morphology.specs.Image.{imageSet, isClean, pack, planeBytes}
+use Rattle.morphology.specs.Labels.{labelAt}
+use Rattle.morphology.specs.Lists.{greatest}
+use Rattle.morphology.specs.Morphology.{dilate}
+use Rattle.morphology.specs.Point.{Point, at}
+use Rattle.morphology.specs.Skeleton.{reconstruction}
+use Rattle.morphology.proofs.CountLaws.{getD-greatest}
+use Rattle.morphology.proofs.ElementLaws.{element}
+use Rattle.morphology.proofs.FrameLaws.{OnFrame}
+use Rattle.morphology.proofs.ImageLaws.{Agree, clean-agree, image-agree, image-on, length-pack}
+use Rattle.morphology.proofs.MorphologyLaws.{dilate-zero}
+use Rattle.morphology.proofs.PlaneLaws.{pack-empty}
+use Rattle.morphology.proofs.ReconstructLaws.{dilated-suc, partial-top, reconstruction-on, union-at-on, union-dilated, union-on, union-turn}
+use Rattle.labels.specs.Points.{withPoints}
+use Rattle.raster.specs.Rows.{overwrite}
+use Rattle.raster.proofs.PartLaws.{overwrite-all}
+use Rattle.steps.specs.Steps.{First, Sheet, dilated}
+use Rattle.steps.proofs.StepLaws.{dilated-is, dilated-on, first-as, first-clean, first-image, first-next}
+use Rattle.skeleton.specs.Gathered.{Kept, Tame, gathered, grown}
+
+-- the largest label bounds them all
+label-greatest : (W H : ℕ) (m : List ℕ) (p : Point) → labelAt W H m p ≤ greatest m
+unfolding labelAt
+label-greatest W H m p = by (p .x) (p .y)
+  where
+    by : (x y : ℤ) → labelAt W H m (at x y) ≤ greatest m
+    by (pos x) (pos y) = go (ltb x W && ltb y H)
+      where
+        go : (b : Bool) → cond b (getD m (y * W + x) 0) 0 ≤ greatest m
+        go true = getD-greatest m (y * W + x)
+        go false = zero-le
+    by (pos x) (negsuc y) = zero-le
+    by (negsuc x) y = zero-le
+
+-- ---- one size
+
+-- what the first plane, lent as a part and back, holds of it
+module _ (W H p : ℕ) (q : p ≡ planeBytes W H) (B : List Point) (m : List ℕ) (v : ℕ) (w u ys : List ℕ) (h : 2 * p ≤ length w) (clean : T (isClean W H w))
+    (a : First W H p (dilated W H B 1 (imageSet W H w)) w u) where
+  pub taken : length (take p u) ≡ p
+  taken = length-take-le p u (omega (arith, a .size))
+
+  agree : Agree W H (take p u) u
+  agree j l = getD-take p u j 0 (omega arith)
+
+  on : OnFrame W H (dilated W H B 1 (imageSet W H w))
+  on = dilated-on W H B 1 (imageSet W H w) (image-on W H w)
+
+  pub part-clean : T (isClean W H (take p u))
+  part-clean = clean-agree W H u (take p u) (λ j l. sym (agree j l)) (first-clean q on a)
+
+  pub grown-first : ys ≡ overwrite 0 (pack W H (withPoints W H m v (take p u))) (take p u) → First W H p (grown W H B m v w) w (ys ++ drop p u)
+  grown-first e =
+      let X = withPoints W H m v (take p u) in
+      let size : length (pack W H X) ≡ p = length-pack W H X ∙ sym q in
+      let y : ys ≡ pack W H X = e ∙ overwrite-all (pack W H X) (take p u) (size ∙ sym taken) in
+      let z : 2 * p ≡ p + p = omega arith in
+      record {
+        size = ap (λ (s : List ℕ). length (s ++ drop p u)) y ∙ length-append (pack W H X) (drop p u) ∙ omega (arith, size, length-drop p u, a .size, h);
+        first = ap (λ (s : List ℕ). take p (s ++ drop p u)) y ∙ take-at (pack W H X) (drop p u) p size
+            ∙ ap (λ (Y : Point → Bool). pack W H (λ z. eqb (labelAt W H m z) v || Y z)) (image-agree W H (take p u) u agree ∙ first-image q on a);
+        rest = ap₂ (λ (k : ℕ) (s : List ℕ). drop k (s ++ drop p u)) z y ∙ sym (drop-drop p p (pack W H X ++ drop p u)) ∙ ap (drop p) (drop-at (pack W H X) (drop p u) p size)
+            ∙ drop-drop p p u ∙ ap (λ (k : ℕ). drop k u) (sym z) ∙ a .rest;
+      }
+
+-- ---- size by size
+
+module _ (W H p e k : ℕ) (q : p ≡ planeBytes W H) (m : List ℕ) (t : Tame W H e k m) where
+  B : List Point
+  B = offsets e
+
+  -- after the sizes from n on
+  abbrev pub Gathered : ℕ → List ℕ → List ℕ → Type 0
+  Gathered n w u = First W H p (gathered W H (offsets e) m (max n k)) w u
+
+  pub gathered-on : (n : ℕ) → OnFrame W H (gathered W H (offsets e) m (max n k))
+  gathered-on n = union-at-on W H (offsets e) (element e (t .element)) m k (t .stays) (max n k) (omega arith)
+
+  -- none yet
+  pub gathered-start : (n : ℕ) (w : List ℕ) → n ≡ greatest m → take p w ≡ replicate p 0 → Gathered n w w
+  gathered-start n w g z =
+      let U = gathered W H (offsets e) m (max n k) in
+      record {
+        size = refl;
+        first = z ∙ ap (λ (i : ℕ). replicate i 0) q ∙ sym (pack-empty W H U (partial-top W H (offsets e) (labelAt W H m) (greatest m) (max n k) (label-greatest W H m) (omega arith)));
+        rest = refl;
+      }
+
+  pub gathered-clean : (n : ℕ) (w u : List ℕ) → Gathered n w u → T (isClean W H u)
+  gathered-clean n w u a = first-clean q (gathered-on n) a
+
+  -- one size more
+  pub gathered-more : (n : ℕ) (w u v : List ℕ) → k < n → Gathered n w u → First W H p (grown W H (offsets e) m n u) u v → Gathered (n - 1) w v
+  unfolding dilated
+  gathered-more n w u v l a b =
+      let el = element e (t .element) in
+      let U = gathered W H (offsets e) m n in
+      let i : max n k ≡ n = omega arith in
+      let j : max (n - 1) k ≡ n - 1 = omega arith in
+      let s : n ≡ suc (n - 1) = omega arith in
+      let set : imageSet W H u ≡ U = first-image q (gathered-on n) a ∙ ap (gathered W H (offsets e) m) i in
+      let one : dilated W H (offsets e) 1 U ≡ dilate (offsets e) U =
+      dilated-is W H (offsets e) U 1 (λ i h. union-on W H (offsets e) el m k (t .stays) n i (omega arith) (omega arith))
+      ∙ dilated-suc (offsets e) 0 U ∙ ap (dilate (offsets e)) (dilate-zero (offsets e) U) in
+      let joined : ℕ → (Point → Bool) → (Point → Bool) = λ i Y z. eqb (labelAt W H m z) i || Y z in
+      let turn : joined n (dilated W H (offsets e) 1 (imageSet W H u)) ≡ gathered W H (offsets e) m (max (n - 1) k) =
+      ap (joined n) (ap (dilated W H (offsets e) 1) set ∙ one)
+      ∙ ap (λ (i : ℕ). joined i (dilate (offsets e) (gathered W H (offsets e) m i))) s
+      ∙ sym (union-turn W H (offsets e) el m (n - 1)) ∙ ap (gathered W H (offsets e) m) (sym j) in
+      first-next a (first-as (ap (pack W H) turn) b)
+
+  -- down to the cut
+  pub gathered-last : (n : ℕ) (w u : List ℕ) → n ≤ k → Gathered n w u → First W H p (gathered W H (offsets e) m k) w u
+  gathered-last n w u l a = let i : max n k ≡ k = omega arith in subst (λ (i : ℕ). First W H p (gathered W H (offsets e) m i) w u) i a
+
+  -- and the cut's dilations
+  pub gathered-dilated : (w u v : List ℕ) → First W H p (gathered W H (offsets e) m k) w u → First W H p (dilated W H (offsets e) k (imageSet W H u)) u v
+      → First W H p (reconstruction W H (offsets e) k m) w v
+  gathered-dilated w u v a b =
+      let el = element e (t .element) in
+      let U = gathered W H (offsets e) m k in
+      let on = union-at-on W H (offsets e) el m k (t .stays) k (le-refl k) in
+      first-next a
+      (first-as
+      (ap (pack W H)
+      (ap (dilated W H (offsets e) k) (first-image q on a) ∙ dilated-is W H (offsets e) U k (λ i h. union-on W H (offsets e) el m k (t .stays) k i (le-refl k) h) ∙ union-dilated W H (offsets e) el m k))
+      b)
+
+  pub gathered-cleans : (w u : List ℕ) → First W H p (gathered W H (offsets e) m k) w u → T (isClean W H u)
+  gathered-cleans w u a = first-clean q (union-at-on W H (offsets e) (element e (t .element)) m k (t .stays) k (le-refl k)) a
+
+  pub kept-on : OnFrame W H (reconstruction W H (offsets e) k m)
+  kept-on = reconstruction-on W H (offsets e) (element e (t .element)) m k (t .stays)
+
+-- ---- an empty first plane
+
+pub record Emptied (p : ℕ) (work ys : List ℕ) : Type 0 where
+  pub zeros : ys ≡ replicate p 0
+  pub first : take p (ys ++ drop p work) ≡ replicate p 0
+  pub size : length (ys ++ drop p work) ≡ length work
+
+pub emptied : (p : ℕ) (work ys : List ℕ) → p ≤ length work → ys ≡ replicate (length (take p work)) 0 → Emptied p work ys
+emptied p work ys h e =
+    let z : ys ≡ replicate p 0 = e ∙ ap (λ (n : ℕ). replicate n 0) (length-take-le p work h) in
+    let l : length ys ≡ p = ap length z ∙ length-replicate {A = ℕ} p 0 in
+    record { zeros = z; first = take-at ys (drop p work) p l ∙ z; size = length-append ys (drop p work) ∙ omega (arith, l, length-drop p work, h) }
+
+pub kept-sheet : {W H e k : ℕ} {m image work : List ℕ} → Kept W H e k m image work → Sheet W H ((W + 7) / 8) (H * ((W + 7) / 8))
+kept-sheet d = record { frame = d .frame; plane = refl }

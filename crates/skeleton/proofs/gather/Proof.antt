@@ -1,0 +1,87 @@
+-- `skeleton::gather` meets its contract.
+use Prim.Native.Nat.{_-_, _≤_, max}
+use borrow.Author.Needs.{needs}
+use native.Mathlib.Omega.{arith}
+use denote.Ref.{now}
+use Rattle.morphology.specs.Element.{offsets}
+use Rattle.steps.specs.Steps.{First}
+use Rattle.steps.proofs.StepLaws.{sheet-bytes}
+use Rattle.skeleton.specs.Gathered.{gathered}
+use Rattle.skeleton.proofs.GatherLaws.{gathered-clean, gathered-last, gathered-more, gathered-start}
+use Rattle.skeleton.proofs.gather.Statement.{statement}
+use Rattle.skeleton.proofs.gather.Tie as tie
+
+abbrev Inv-loop : tie.InvT-loop
+Inv-loop w h r p element cut labels work₀ n₀ work n = (n ≤ 255) × First w h p (gathered w h (offsets element) labels (max n cut)) work₀ work
+
+abbrev μ-loop : tie.MeasureT-loop
+μ-loop w h r p element cut labels work₀ n₀ work n = n
+
+greatest-requires : tie.Need-greatest-requires Inv-loop μ-loop
+greatest-requires c κs = tt
+
+cast-n : tie.Need-cast-n Inv-loop μ-loop
+cast-n c = search needs
+
+loop-holds : tie.Need-loop-holds Inv-loop μ-loop
+loop-holds c =
+    let s = c .before .before .before in
+    let a = s .args in
+    (search needs, gathered-start (a .w) (a .h) (a .p) (a .element) (a .cut) (sheet-bytes (s .pre .0)) (now (a .labels)) (s .pre .2) (c .greatest .result) (now (a .work)) (c .greatest .ensures) (s .pre .3))
+
+cast-grow : tie.Need-cast-grow Inv-loop μ-loop
+cast-grow c = omega (arith, c .before .loop .inv .0)
+
+grow-requires : tie.Need-grow-requires Inv-loop μ-loop
+grow-requires c κs =
+    let s = c .before .before .before .before .before .before in
+    let a = s .args in
+    let l = c .before .before .loop in (
+      s .pre .0,
+      omega (arith, s .pre .1, l .inv .1 .size),
+      omega (arith, c .before .loop-test .taken),
+      s .pre .2 .places,
+      gathered-clean (a .w) (a .h) (a .p) (a .element) (a .cut) (sheet-bytes (s .pre .0)) (now (a .labels)) (s .pre .2) (l .n) (now (a .work)) (l .work) (l .inv .1),
+    )
+
+sub-n : tie.Need-sub-n Inv-loop μ-loop
+sub-n c = omega (arith, c .before .before .before .before .loop-test .taken)
+
+loop-less : tie.Need-loop-less Inv-loop μ-loop
+loop-less c = omega (arith, c .before .before .before .before .loop-test .taken)
+
+loop-again : tie.Need-loop-again Inv-loop μ-loop
+loop-again c =
+    let s = c .before .before .before .before .before .before .before .before .before in
+    let a = s .args in
+    let l = c .before .before .before .before .before .loop in (
+      omega (arith, l .inv .0),
+      gathered-more (a .w) (a .h) (a .p) (a .element) (a .cut) (sheet-bytes (s .pre .0)) (now (a .labels)) (s .pre .2) (l .n) (now (a .work)) (l .work) _ (c .before .before .before .before .loop-test .taken) (l .inv .1) (c .before .before .grow .ensures),
+    )
+
+same-length : tie.Need-same-length Inv-loop μ-loop
+same-length c = c .before .loop .inv .1 .size
+
+returns : tie.Need-returns Inv-loop μ-loop
+returns c =
+    let s = c .before .before .before .before .before in
+    let a = s .args in
+    let l = c .before .loop in
+    gathered-last (a .w) (a .h) (a .p) (a .element) (a .cut) (sheet-bytes (s .pre .0)) (now (a .labels)) (s .pre .2) (l .n) (now (a .work)) (l .work) (omega (arith, c .loop-test .left)) (l .inv .1)
+
+pub gather-spec : {M : Type 1} → statement M
+gather-spec =
+    tie.close
+    (tie.spec
+    Inv-loop
+    μ-loop
+    greatest-requires
+    cast-n
+    loop-holds
+    cast-grow
+    grow-requires
+    sub-n
+    loop-less
+    loop-again
+    same-length
+    returns)

@@ -1,0 +1,55 @@
+-- `skeleton::grow` meets its contract.
+use mathlib.Core.Path.{sym}
+use borrow.Author.Needs.{needs}
+use native.Mathlib.Omega.{arith}
+use denote.Ref.{now}
+use lib.Seq.{length-take-le}
+use Rattle.morphology.specs.Element.{offsets}
+use Rattle.steps.proofs.StepLaws.{sheet-bytes}
+use Rattle.skeleton.proofs.GatherLaws.{grown-first, part-clean, taken}
+use Rattle.skeleton.proofs.grow.Statement.{statement}
+use Rattle.skeleton.proofs.grow.Tie as tie
+
+dilate-times-requires : tie.Need-dilate-times-requires
+dilate-times-requires c κs = search needs
+
+slice-relend-prefix-add-points : tie.Need-slice-relend-prefix-add-points
+slice-relend-prefix-add-points c = search needs
+
+slice-aggregate-add-points : tie.Need-slice-aggregate-add-points
+slice-aggregate-add-points c =
+    let s = c .before .before .before .before .before .before .before in
+    sym (length-take-le (s .args .p) _ (omega (arith, s .pre .1, c .before .before .before .dilate-times .ensures .size)))
+
+add-points-requires : tie.Need-add-points-requires
+add-points-requires c κs =
+    let s = c .before .before .before .before .before .before .before in
+    let a = s .args in
+    let e = c .before .before .before .dilate-times .ensures in
+    let q = sheet-bytes (s .pre .0) in (
+      s .pre .0 .frame,
+      s .pre .2,
+      s .pre .3,
+      omega (arith, s .pre .0 .plane, taken (a .w) (a .h) (a .p) q (offsets (a .element)) (now (a .labels)) (a .v) (now (a .work)) _ (now (a .work)) (s .pre .1) (s .pre .4) e),
+      part-clean (a .w) (a .h) (a .p) q (offsets (a .element)) (now (a .labels)) (a .v) (now (a .work)) _ (now (a .work)) (s .pre .1) (s .pre .4) e,
+    )
+
+same-length : tie.Need-same-length
+same-length c = search needs
+
+returns : tie.Need-returns
+returns c =
+    let s = c .before .before .before .before .before .before .before .before .before .before in
+    let a = s .args in
+    grown-first (a .w) (a .h) (a .p) (sheet-bytes (s .pre .0)) (offsets (a .element)) (now (a .labels)) (a .v) (now (a .work)) _ _ (s .pre .1) (s .pre .4) (c .before .before .before .before .before .before .dilate-times .ensures) (c .before .before .add-points .ensures)
+
+pub grow-spec : {M : Type 1} → statement M
+grow-spec =
+    tie.close
+    (tie.spec
+    dilate-times-requires
+    slice-relend-prefix-add-points
+    slice-aggregate-add-points
+    add-points-requires
+    same-length
+    returns)
