@@ -1,2 +1,3 @@
 pub mod LabelLaws
 pub mod PointLaws
+pub mod WildLaws

@@ -1,2 +1,3 @@
 pub mod Labelled
 pub mod Points
+pub mod Wild

@@ -1,4 +1,5 @@
 pub mod points;
+pub mod wild;
 
 ghost use mathlib.Core.Path.{_≡_};
 ghost use mathlib.Core.Bool.{cond};

@@ -22,7 +22,6 @@ pub mod DecomposeLaws
 pub mod ReconstructLaws
 pub mod CoverCountLaws
 pub mod OutcomeLaws
-pub mod WildTurns
 pub mod FoldTurns
 pub mod MinimiseTurns
 pub mod ThinTurns

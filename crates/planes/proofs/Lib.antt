@@ -4,3 +4,4 @@ pub mod CentreLaws
 pub mod SetLaws
 pub mod PlaneLaws
 pub mod SideLaws
+pub mod ExtentLaws

@@ -1,2 +1,3 @@
 pub mod Frames
 pub mod Neighbours
+pub mod Measures

@@ -1,3 +1,4 @@
+pub mod extent;
 pub mod refusals;
 
 ghost use mathlib.Core.Path.{_≡_};

@@ -1,0 +1,34 @@
+-- Row 5 of the table of refusals by bytes: a coordinate leaves room for sizes, and so for labels. Definitions only; proofs/WildLaws.antt has the laws.
+use mathlib.Core.Bool.{Bool, _&&_, _||_, false, not}
+use mathlib.Core.List.{List}
+use mathlib.Core.Path.{_≡_}
+use Prim.Native.Nat.{_*_, _<_, suc, zero, ℕ}
+use lib.Dec.{leb, ltb}
+use lib.IntN.{pos}
+use lib.ListN.{getD}
+use Rattle.morphology.specs.Extent.{fits}
+
+-- a point with this label is kept from cut k on, and its size has no room
+unfoldable pub tooLarge : ℕ → (ℕ → Bool) → ℕ → Bool
+tooLarge k room zero = false
+tooLarge k room (suc n) = leb k n && not (room n)
+
+-- the sizes n that have room at x on a side of W, where the element goes lo back and hi forward
+abbrev pub roomAt : ℕ → ℕ → ℕ → ℕ → ℕ → Bool
+roomAt W lo hi x n = fits W (n * lo) (n * hi) (pos x)
+
+-- r is the last size of a byte's label that has room, or more
+abbrev pub Room : (ℕ → Bool) → ℕ → Type 0
+Room room r = (n : ℕ) → n < 255 → leb n r ≡ room n
+
+-- l is the last byte that is not too large a label
+abbrev pub Limit : ℕ → (ℕ → Bool) → ℕ → Type 0
+Limit k room l = (v : ℕ) → v < 256 → ltb l v ≡ tooLarge k room v
+
+-- a limit for each x of a side
+abbrev pub Limits : ℕ → ℕ → ℕ → ℕ → List ℕ → Type 0
+Limits W lo hi k limits = (x : ℕ) → x < W → Limit k (roomAt W lo hi x) (getD limits x 0)
+
+-- a label is above one of two limits
+abbrev pub over : ℕ → ℕ → ℕ → Bool
+over v a b = ltb a v || ltb b v
