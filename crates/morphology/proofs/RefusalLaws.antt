@@ -1,17 +1,19 @@
 -- The table of refusals: what a call that is not refused has shown, what is enough not to be refused, what each row answers.
 use mathlib.Core.Bool.{Bool, _&&_, _||_, cond, false, not, true}
-use mathlib.Core.List.{List, [], _∷_}
+use mathlib.Core.List.{List, [], _++_, _∷_}
 use mathlib.Core.Path.{_∙_, _≡_, ap, ap₂, refl, subst, sym}
 use Prim.Native.Nat.{_*_, _≤_, suc, zero, ℕ}
 use native.Mathlib.Nat.{suc-ne-zero}
-use borrow.Author.Tests.{eq-eqb, eqb-true, le-ltb, not-false}
+use borrow.Author.Tests.{eq-eqb, eqb-true, le-ltb, ne-eqb, not-false}
 use lib.Dec.{T, T-not, eqb}
 use lib.ListN.{length}
 use Rattle.morphology.specs.Answers.{Outcome, outcome, refused}
 use Rattle.morphology.specs.Element.{isElement, offsets}
 use Rattle.morphology.specs.Image.{isClean, planeBytes}
+use Rattle.morphology.specs.Lists.{all, any}
 use Rattle.morphology.specs.Operations.{decomposeRows, reconstructRows}
 use Rattle.morphology.specs.Refusals.{Row, firstRefusal, imageRows, isSide, isWild, maxSide, notPlane, row3, unless}
+use Rattle.morphology.proofs.TestLaws.{and-l, and-r}
 
 pub or-out-false : (a b : Bool) → (a || b) ≡ false → (a ≡ false) × (b ≡ false)
 or-out-false true b e = absurd (subst T e tt)
@@ -22,9 +24,6 @@ or-in-false a b p q = ap₂ (λ (x y : Bool). x || y) p q
 
 pub or-hit : (a b : Bool) → a ≡ true → (a || b) ≡ true
 or-hit a b p = ap (λ (x : Bool). x || b) p
-
-pub or-miss : (a b : Bool) {t : Bool} → a ≡ false → b ≡ t → (a || b) ≡ t
-or-miss a b p q = ap (λ (x : Bool). x || b) p ∙ q
 
 pub not-T-false : (b : Bool) → T b → not b ≡ false
 not-T-false true t = refl
@@ -68,6 +67,41 @@ unfolding firstRefusal
 first-clear [] c = refl
 first-clear (r ∷ rows) c = ap (λ (b : Bool). cond b (r .0) (firstRefusal rows)) (c .0) ∙ first-clear rows (c .1)
 
+-- one row alone, its test as the code has it
+pub first-row : (n : ℕ) {s t : Bool} {r : ℕ} → s ≡ t → r ≡ firstRefusal ((n, s) ∷ []) → r ≡ firstRefusal ((n, t) ∷ [])
+first-row n e q = q ∙ ap (λ (b : Bool). firstRefusal ((n, b) ∷ [])) e
+
+-- ---- rows in two parts
+
+-- no row has the number 0
+abbrev pub numbered : List Row → Bool
+numbered rows = all (λ r. not (eqb (r .0) 0)) rows
+
+pub first-append : (xs ys : List Row) → T (numbered xs) → firstRefusal (xs ++ ys) ≡ cond (eqb (firstRefusal xs) 0) (firstRefusal ys) (firstRefusal xs)
+unfolding firstRefusal
+first-append [] ys h = refl
+first-append ((n, true) ∷ xs) ys h = sym (ap (λ (b : Bool). cond b (firstRefusal ys) n) (false-of (eqb n 0) (T-not (eqb n 0) (and-l (not (eqb n 0)) (numbered xs) h))))
+first-append ((n, false) ∷ xs) ys h = first-append xs ys (and-r (not (eqb n 0)) (numbered xs) h)
+
+-- a answers the first part, b the second
+pub first-both : (xs ys : List Row) (a b : ℕ) {r : ℕ} → T (numbered xs) → a ≡ firstRefusal xs → b ≡ firstRefusal ys → r ≡ cond (eqb a 0) b a → r ≡ firstRefusal (xs ++ ys)
+first-both xs ys a b h p q e = e ∙ ap₂ (λ (m n : ℕ). cond (eqb m 0) n m) p q ∙ sym (first-append xs ys h)
+
+pub then-first : (a b : ℕ) → (a ≡ 0 → ⊥) → a ≡ cond (eqb a 0) b a
+then-first a b f = sym (ap (λ (t : Bool). cond t b a) (ne-eqb a 0 f))
+
+pub then-second : (a b : ℕ) → a ≡ 0 → b ≡ cond (eqb a 0) b a
+then-second a b e = sym (ap (λ (t : Bool). cond t b a) (eq-eqb a 0 e))
+
+-- refused by the first part; not refused by it
+pub first-refused : (xs ys : List Row) (a : ℕ) → T (numbered xs) → a ≡ firstRefusal xs → (a ≡ 0 → ⊥) → a ≡ firstRefusal (xs ++ ys)
+first-refused xs ys a h p f = first-both xs ys a (firstRefusal ys) h p refl (then-first a (firstRefusal ys) f)
+
+pub first-passed : (xs ys : List Row) (a b : ℕ) → T (numbered xs) → a ≡ firstRefusal xs → a ≡ 0 → b ≡ firstRefusal ys → b ≡ firstRefusal (xs ++ ys)
+first-passed xs ys a b h p z q = first-both xs ys a b h p q (then-second a b z)
+
+-- ---- the outcome by its rows
+
 -- an outcome that is not refused is the success
 pub unless-out : (r : ℕ) (l : List (List ℕ)) (o : Outcome) → unless r l o .answer .refusal ≡ 0 → unless r l o ≡ o
 unless-out zero l o e = refl
@@ -106,6 +140,21 @@ three-out a b c e =
     let p = or-out-false a (b || (c || false)) e in
     let q = or-out-false b (c || false) (p .1) in
     (p .0, q .0, or-out-false c false (q .1) .0)
+
+-- row 3 of three, joined as the code has it
+pub lengths-joined : (a b c : Bool) → (a || (b || c)) ≡ any (λ t. t) (a ∷ b ∷ c ∷ [])
+lengths-joined true b c = refl
+lengths-joined false true c = refl
+lengths-joined false false true = refl
+lengths-joined false false false = refl
+
+-- row 3 of the others where the first is not wrong
+pub lengths-rest : (a b c : Bool) (rows : List Row) → a ≡ false → firstRefusal ((3, b) ∷ (3, c) ∷ rows) ≡ firstRefusal (row3 (a ∷ b ∷ c ∷ []) ∷ rows)
+unfolding firstRefusal
+lengths-rest true b c rows p = absurd (subst T p tt)
+lengths-rest false true c rows p = refl
+lengths-rest false false true rows p = refl
+lengths-rest false false false rows p = refl
 
 -- ---- an image that rows 1, 3 and 4 let pass
 

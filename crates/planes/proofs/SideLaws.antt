@@ -1,7 +1,7 @@
 -- The shared tests of the table of refusals, as the code has them.
 use mathlib.Core.Bool.{Bool, _&&_, false, not, true}
 use mathlib.Core.Path.{_∙_, _≡_, ap, ap₂, refl, sym}
-use Prim.Native.Nat.{_%_, _*_, _+_, _/_, _<_, _^_, _≤_, suc, zero, ℕ}
+use Prim.Native.Nat.{_%_, _*_, _+_, _-_, _/_, _<_, _^_, _≤_, suc, zero, ℕ}
 use native.Mathlib.Decide.{decLe}
 use native.Mathlib.Nat.{mul-le-mul-right}
 use native.Mathlib.Omega.{arith}
@@ -58,11 +58,13 @@ pub sides-frame : {w h : ℕ} → Sides w h → Frame w h ((w + 7) / 8)
 unfolding stride
 sides-frame {w} {h} s = let a = s .across in let b = s .down in record { wide = s .wide; across = omega arith; down = omega arith; row = refl }
 
-pub sides-plane : {w h : ℕ} → Sides w h → h * ((w + 7) / 8) < 8161
-sides-plane {w} {h} s = let a = s .across in let b = s .down in omega (arith, mul-le-mul-right ((w + 7) / 8) b)
+-- ---- row 3, of any sides
 
-pub sides-places : {w h : ℕ} → Sides w h → w * h < 65026
-sides-places {w} {h} s = let a = s .across in let b = s .down in omega (arith, mul-le-mul-right h a)
+pub plane-small : (w h : ℕ) → w < 2 ^ 32 → h < 2 ^ 32 → h * ((w + 7) / 8) < 2 ^ 62
+plane-small w h p q = let b : h ≤ 2 ^ 32 = omega arith in omega (arith, mul-le-mul-right ((w + 7) / 8) b)
+
+pub places-small : (w h : ℕ) → w < 2 ^ 32 → h < 2 ^ 32 → w * h < 2 ^ 64
+places-small w h p q = let a : w ≤ 2 ^ 32 - 1 = omega arith in omega (arith, mul-le-mul-right h a)
 
 -- ---- row 2
 

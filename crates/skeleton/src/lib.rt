@@ -1,3 +1,4 @@
+use planes::refusals;
 ghost use mathlib.Core.Path.{_≡_};
 ghost use mathlib.Core.List.{[], _∷_};
 ghost use Prim.Native.Nat.{_+_, _*_, _<_, _≤_};
@@ -7,8 +8,8 @@ ghost use Rattle.morphology.specs.Answers.{outcome};
 ghost use Rattle.morphology.specs.Element.{offsets, isElement};
 ghost use Rattle.morphology.specs.Image.{imageSet, isClean};
 ghost use Rattle.morphology.specs.Morphology.{erode as erodeSet, opening, times};
-ghost use Rattle.morphology.specs.Operations.{cleared, eroded, opened, decomposed, foldRows, decomposeRows};
-ghost use Rattle.morphology.specs.Refusals.{firstRefusal};
+ghost use Rattle.morphology.specs.Operations.{cleared, eroded, opened, decomposed, reconstructed, foldRows, decomposeRows, reconstructRows};
+ghost use Rattle.morphology.specs.Refusals.{firstRefusal, notPlane, shortWork, row1, row2, row3, row4};
 ghost use Rattle.morphology.specs.Skeleton.{reconstruction};
 ghost use Rattle.planes.specs.Frames.{Frame};
 ghost use Rattle.steps.specs.Steps.{First, Sheet, Wrote, Ready};
@@ -36,32 +37,26 @@ struct Found {
     turns: u32,
 }
 
+// Rows 1 to 4 of a call that reads an image and has work and another buffer, whose length is wrong or not.
+fn image_refusal(w: u32, h: u32, element: u32, image: &[u8], other: bool, work: &[u8]) -> u8
+    ensures { λ r. ⌜ r ≡ firstRefusal (row1 w h ∷ row2 element ∷ row3 (notPlane w h (now (image .entry)) ∷ other ∷ shortWork w h (now (work .entry)) ∷ []) ∷ row4 w h (now (image .entry)) ∷ []) ⌝ }
+{
+    let numbers = refusals::sides_and_element(w, h, element);
+    if numbers != 0 {
+        return numbers;
+    }
+    let short = refusals::short_work(w, h, work);
+    refusals::image_rows(w, h, image, other, short)
+}
+
 // The first row of the table of refusals that applies to an erosion or opening; 0 if there is none.
 fn fold_refusal(w: u32, h: u32, element: u32, n: u32, image: &[u8], out: &[u8], work: &[u8]) -> u8
     ensures { λ r. ⌜ r ≡ firstRefusal (foldRows w h element n (now (image .entry)) (now (out .entry)) (now (work .entry))) ⌝ }
 {
-    if planes::refusals::bad_sides(w, h) {
-        return 1;
-    }
-    if planes::refusals::bad_element(element) {
-        return 2;
-    }
-    if planes::refusals::not_plane(w, h, image) {
-        return 3;
-    }
-    if planes::refusals::not_plane(w, h, out) {
-        return 3;
-    }
-    if planes::refusals::short_work(w, h, work) {
-        return 3;
-    }
-    if planes::refusals::bad_padding(w, h, image) {
-        return 4;
-    }
-    if planes::refusals::above_max(n) {
-        return 7;
-    }
-    0
+    let out_wrong = refusals::not_plane(w, h, out);
+    let early = image_refusal(w, h, element, image, out_wrong, work);
+    let above = refusals::row(7, refusals::above_max(n));
+    refusals::first(early, above)
 }
 
 // An image that is not refused, eroded n times into out.
@@ -214,25 +209,8 @@ fn decompose_into(
 fn decompose_refusal(w: u32, h: u32, element: u32, image: &[u8], labels: &[u8], work: &[u8]) -> u8
     ensures { λ r. ⌜ r ≡ firstRefusal (decomposeRows w h element (now (image .entry)) (now (labels .entry)) (now (work .entry))) ⌝ }
 {
-    if planes::refusals::bad_sides(w, h) {
-        return 1;
-    }
-    if planes::refusals::bad_element(element) {
-        return 2;
-    }
-    if planes::refusals::not_plane(w, h, image) {
-        return 3;
-    }
-    if planes::refusals::not_places(w, h, labels) {
-        return 3;
-    }
-    if planes::refusals::short_work(w, h, work) {
-        return 3;
-    }
-    if planes::refusals::bad_padding(w, h, image) {
-        return 4;
-    }
-    0
+    let labels_wrong = refusals::not_places(w, h, labels);
+    image_refusal(w, h, element, image, labels_wrong, work)
 }
 
 // Decomposition: the skeleton function of image into labels.
@@ -310,4 +288,49 @@ fn reconstruct_into(
     gather(w, h, r, p, element, cut, labels, work);
     steps::dilate_times(w, h, r, p, element, cut, work);
     steps::hand_out(p, image, work)
+}
+
+// The first row of the table of refusals that applies to a reconstruction; 0 if there is none.
+fn reconstruct_refusal(
+    w: u32,
+    h: u32,
+    element: u32,
+    cut: u32,
+    labels: &[u8],
+    image: &[u8],
+    work: &[u8],
+) -> u8
+    ensures { λ r. ⌜ r ≡ firstRefusal (reconstructRows w h element cut (now (labels .entry)) (now (image .entry)) (now (work .entry))) ⌝ }
+{
+    let places = refusals::not_places(w, h, labels);
+    let plane = refusals::not_plane(w, h, image);
+    let planes = refusals::short_work(w, h, work);
+    let shape = refusals::shape_rows(w, h, element, places, plane, planes);
+    if shape != 0 {
+        return shape;
+    }
+    let wild = labels::wild::is_wild(w as usize, h as usize, element, cut, labels);
+    let leaves = refusals::row(5, wild);
+    let over = refusals::row(7, refusals::above_max(cut));
+    refusals::first(leaves, over)
+}
+
+// Reconstruction at a cut: the sizes from the cut on, from labels into image.
+pub fn reconstruct(
+    w: u32,
+    h: u32,
+    element: u32,
+    cut: u32,
+    labels: &[u8],
+    image: &mut [u8],
+    work: &mut [u8],
+) -> Written
+    ensures { λ r. ⌜ outcome (answerOf r) (now (image .exit) ∷ now (work .exit) ∷ []) ≡ reconstructed w h element cut (now (labels .entry)) (now (image .entry)) (now (work .entry)) ⌝ }
+{
+    let no = reconstruct_refusal(w, h, element, cut, labels, &image[..], &work[..]);
+    if no != 0 {
+        return Written::Refused(no);
+    }
+    let ink = reconstruct_into(w as usize, h as usize, element, cut, labels, image, work);
+    Written::Area(ink)
 }

@@ -2,7 +2,7 @@
 use skeleton::Decomposed;
 use skeleton::Written;
 ghost use mathlib.Core.Path.{_≡_};
-ghost use Rattle.morphology.specs.Operations.{decomposed, eroded, opened};
+ghost use Rattle.morphology.specs.Operations.{decomposed, eroded, opened, reconstructed};
 ghost use Rattle.skeleton.specs.Decomposed.{answerOf as decomposedAnswer};
 ghost use Rattle.skeleton.specs.Written.{answerOf};
 ghost use Rattle.timing.specs.Values.{firstValue};
@@ -68,4 +68,19 @@ pub extern "C" fn time_decompose(
     ensures { λ r. ⌜ r ≡ firstValue (decomposed w h element (now (image .entry)) (now (labels .entry)) (now (work .entry)) .answer) ⌝ }
 {
     points(skeleton::decompose(w, h, element, image, labels, work))
+}
+
+#[no_mangle]
+pub extern "C" fn time_reconstruct(
+    w: u32,
+    h: u32,
+    element: u32,
+    cut: u32,
+    labels: &[u8],
+    image: &mut [u8],
+    work: &mut [u8],
+) -> u32
+    ensures { λ r. ⌜ r ≡ firstValue (reconstructed w h element cut (now (labels .entry)) (now (image .entry)) (now (work .entry)) .answer) ⌝ }
+{
+    value(skeleton::reconstruct(w, h, element, cut, labels, image, work))
 }

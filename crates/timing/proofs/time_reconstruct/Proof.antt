@@ -1,0 +1,26 @@
+-- `timing::time_reconstruct` meets its contract.
+use mathlib.Core.Path.{_∙_, ap}
+use borrow.Author.Needs.{needs}
+use Rattle.morphology.specs.Answers.{Outcome}
+use Rattle.timing.specs.Values.{firstValue}
+use Rattle.timing.proofs.time_reconstruct.Statement.{statement}
+use Rattle.timing.proofs.time_reconstruct.Tie as tie
+
+reconstruct-requires : tie.Need-reconstruct-requires
+reconstruct-requires c κs = search needs
+
+value-requires : tie.Need-value-requires
+value-requires c κs = search needs
+
+same-length : tie.Need-same-length
+same-length c = search needs
+
+same-length-2 : tie.Need-same-length-2
+same-length-2 c = search needs
+
+returns : tie.Need-returns
+returns c = c .value .ensures ∙ ap (λ (o : Outcome). firstValue (o .answer)) (c .before .before .before .before .before .reconstruct .ensures)
+
+pub time-reconstruct-spec : {M : Type 1} → statement M
+time-reconstruct-spec =
+    tie.close (tie.spec reconstruct-requires value-requires same-length same-length-2 returns)
