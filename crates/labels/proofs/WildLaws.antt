@@ -4,14 +4,14 @@ use mathlib.Core.List.{List, List·Memᴰ}
 use mathlib.Core.Path.{_∙_, _≡_, ap, ap₂, refl, subst, sym}
 use Prim.Native.Nat.{_*_, _+_, _-_, _/_, _<_, _≤_, suc, zero, ℕ}
 use native.Mathlib.Decide.{decLe}
-use native.Mathlib.Nat.{le-refl, mul-comm, mul-one, mul-zero, zero-add}
+use native.Mathlib.Nat.{le-refl, min-le-left, mul-comm, mul-one, mul-zero, zero-add}
 use native.Mathlib.Numerals.{add-one}
 use native.Mathlib.Omega.{arith}
 use borrow.Author.Count.{below-more}
 use borrow.Author.Tests.{le-leb, le-ltb, lt-leb, lt-ltb}
 use lib.Dec.{T, leb, leb→le, le→leb, ltb, ltb→lt, lt→ltb}
 use lib.IntN.{pos}
-use lib.ListN.{drop, getD, length, length-drop, set, take}
+use lib.ListN.{drop, getD, length, length-drop, length-take, set, take}
 use lib.Seq.{getD-drop, getD-set-other, getD-set-same, getD-take, length-take-le}
 use Rattle.morphology.specs.Extent.{boxed, extent}
 use Rattle.morphology.specs.Labels.{labelAt, places}
@@ -189,6 +189,13 @@ rowOf W m y = take (y * W + W - y * W) (drop (y * W) m)
 abbrev pub rowOver : List ℕ → List ℕ → ℕ → Bool
 rowOver row limits l = any (λ x. over (getD row x 0) (getD limits x 0) l) (upTo (length row))
 
+-- a part of W labels has a limit for each
+pub part-limited : {W H : ℕ} {B : List Point} {k : ℕ} {m : List ℕ} {left right up down : ℕ} {limits : List ℕ} → Ready W H B k m left right up down limits → (a : ℕ)
+    → length (take (a + W - a) (drop a m)) ≤ length limits
+part-limited {W} {m = m} {limits = limits} r a =
+    let n : ℕ = a + W - a in
+    omega (arith, length-take n (drop a m), min-le-left n (length (drop a m)), r .room)
+
 module _ {W H : ℕ} {B : List Point} {k : ℕ} {m : List ℕ} {left right up down : ℕ} {limits : List ℕ} (r : Ready W H B k m left right up down limits) (y : ℕ) (h : y < H) where
   pub row-fits : y * W + W ≤ length m
   row-fits = omega (arith, row-in y H W (H * W) h (le-refl (H * W)), mul-comm H W, r .size)
@@ -198,9 +205,6 @@ module _ {W H : ℕ} {B : List Point} {k : ℕ} {m : List ℕ} {left right up do
       let n : ℕ = y * W + W - y * W in
       let e : n ≡ W = omega arith in
       length-take-le n (drop (y * W) m) (omega (arith, length-drop (y * W) m, row-fits)) ∙ e
-
-  pub row-limited : length (rowOf W m y) ≤ length limits
-  row-limited = omega (arith, row-length, r .room)
 
   module _ (l : ℕ) (row : Limit k (roomAt H up down y) l) where
     label-exact : (x : ℕ) → x < W → over (getD (rowOf W m y) x 0) (getD limits x 0) l ≡ leaves W H B k (at (pos x) (pos y)) (getD m (y * W + x) 0)

@@ -17,11 +17,11 @@ tooLarge k room (suc n) = leb k n && not (room n)
 abbrev pub roomAt : ℕ → ℕ → ℕ → ℕ → ℕ → Bool
 roomAt W lo hi x n = fits W (n * lo) (n * hi) (pos x)
 
--- r is the last size of a byte's label that has room, or more
+-- of the sizes that a byte can label, those up to r have room
 abbrev pub Room : (ℕ → Bool) → ℕ → Type 0
 Room room r = (n : ℕ) → n < 255 → leb n r ≡ room n
 
--- l is the last byte that is not too large a label
+-- of the labels that are bytes, those above l are too large
 abbrev pub Limit : ℕ → (ℕ → Bool) → ℕ → Type 0
 Limit k room l = (v : ℕ) → v < 256 → ltb l v ≡ tooLarge k room v
 

@@ -8,7 +8,7 @@ use denote.Ref.{now}
 use Rattle.morphology.specs.Element.{offsets}
 use Rattle.morphology.specs.Lists.{any, tabulate, upTo}
 use Rattle.morphology.proofs.ElementLaws.{element}
-use Rattle.labels.proofs.WildLaws.{Ready, row-fits, row-limited, rowWild, wild-last, wild-stop, wild-turn}
+use Rattle.labels.proofs.WildLaws.{Ready, part-limited, row-fits, rowWild, wild-last, wild-stop, wild-turn}
 use Rattle.labels.proofs.wild.is_wild.Statement.{statement}
 use Rattle.labels.proofs.wild.is_wild.Tie as tie
 
@@ -35,7 +35,7 @@ slice-aggregate-column-limits : tie.Need-slice-aggregate-column-limits Inv-loop 
 slice-aggregate-column-limits c = refl
 
 column-limits-requires : tie.Need-column-limits-requires Inv-loop μ-loop
-column-limits-requires c κs = (c .before .before .before .before .extent .ensures .1, c .before .before .before .extent2 .ensures .1, c .before .before .before .before .before .before .pre .0)
+column-limits-requires c κs = search needs
 
 loop-holds : tie.Need-loop-holds Inv-loop μ-loop
 unfolding tabulate
@@ -75,10 +75,10 @@ slice-aggregate-row-is-wild : tie.Need-slice-aggregate-row-is-wild Inv-loop μ-l
 slice-aggregate-row-is-wild c = sym (c .before .before .before .before .before .column-limits .kept .1 .1 .1 .1 .0)
 
 limit-at-requires : tie.Need-limit-at-requires Inv-loop μ-loop
-limit-at-requires c κs = (c .before .before .before .before .before .before .before .before .extent3 .ensures .1, c .before .before .before .before .before .before .before .extent4 .ensures .1, c .before .before .loop-test .taken)
+limit-at-requires c κs = search needs
 
 row-is-wild-requires : tie.Need-row-is-wild-requires Inv-loop μ-loop
-row-is-wild-requires c κs = let l = c .before .before .before .before .loop in row-limited (l .inv .1) (l .y) (c .before .before .before .loop-test .taken)
+row-is-wild-requires c κs = part-limited (c .before .before .before .before .loop .inv .1) _
 
 returns : tie.Need-returns Inv-loop μ-loop
 returns c =
