@@ -3,12 +3,12 @@ use mathlib.Core.Bool.{Bool, _||_, false, not, true}
 use mathlib.Core.List.{List, [], _++_, _∷_}
 use mathlib.Core.Path.{_∙_, _≡_, ap, ap₂, refl, subst, sym}
 use Prim.Native.Nat.{_*_, _+_, _/_, _<_, _^_, _≤_, suc, zero, ℕ}
-use native.Mathlib.Nat.{le-refl, mul-le-mul-right}
+use native.Mathlib.Nat.{le-refl, min-le-left, mul-le-mul-right}
 use native.Mathlib.Numerals.{add-one}
 use native.Mathlib.Omega.{arith}
 use borrow.Author.Tests.{eqb-true}
 use lib.Dec.{T, eqb}
-use lib.ListN.{List·getD-append, drop, getD, length, length-append, length-drop, replicate, take}
+use lib.ListN.{List·getD-append, drop, getD, length, length-append, length-drop, length-take, replicate, take}
 use lib.Seq.{drop-at, drop-drop, getD-take, length-take-le, take-at}
 use Rattle.morphology.specs.Element.{isElement, offsets}
 use Rattle.morphology.specs.Image.{clip, imageSet, isClean, onFrame, onesOf, pack, planeBytes, stride}
@@ -207,6 +207,10 @@ loaded W H p image out work ys q d e =
       clean = clean-agree W H image (ys ++ drop p work) (λ j l. sym (agree j l)) (d .clean);
       set = image-agree W H (ys ++ drop p work) image agree;
     }
+
+-- a part is no longer than what is asked
+pub take-lt : (n k : ℕ) (l : List ℕ) → n < k → length (take n l) < k
+take-lt n k l h = omega (arith, length-take n l, min-le-left n (length l))
 
 -- three planes cleared
 pub three-cleared : (n : ℕ) (old ys : List ℕ) → ys ≡ replicate (length (take n old)) 0 → n ≤ length old

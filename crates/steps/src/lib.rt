@@ -64,12 +64,13 @@ pub fn clear_work(p: usize, work: &mut [u8])
     raster::fill(&mut work[..3 * p], 0);
 }
 
-// The first plane copied to out and counted, and three planes of work cleared.
+// The first plane counted and copied to out, and three planes of work cleared.
 pub fn hand_out(p: usize, out: &mut [u8], work: &mut [u8]) -> u32
     requires { ⌜ (3 * p ≤ length (now work)) × (length (now out) ≡ p) × (p < 2 ^ 20) ⌝ }
     ensures { λ n. ⌜ HandedOut p (take p (now (work .entry))) n (now (out .exit)) (now (work .entry)) (now (work .exit)) ⌝ }
 {
+    let ones = raster::count_ones(&work[..p]);
     raster::copy(&work[..p], out);
     clear_work(p, work);
-    raster::count_ones(&out[..])
+    ones
 }

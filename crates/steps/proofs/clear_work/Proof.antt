@@ -16,7 +16,7 @@ slice-relend-prefix-fill : tie.Need-slice-relend-prefix-fill
 slice-relend-prefix-fill c = search needs
 
 slice-aggregate-fill : tie.Need-slice-aggregate-fill
-slice-aggregate-fill c = let s = c .before .before in sym (length-take-le (3 * s .args .p) (now (s .args .work)) (omega (arith, s .pre .0)))
+slice-aggregate-fill c = sym (length-take-le _ _ (search needs))
 
 fill-requires : tie.Need-fill-requires
 fill-requires c κs = search needs
