@@ -17,7 +17,6 @@ pub mod CoverLaws
 pub mod ThinningLaws
 pub mod CountLaws
 pub mod PlaneLaws
-pub mod HitLaws
 pub mod DecomposeLaws
 pub mod ReconstructLaws
 pub mod CoverCountLaws
@@ -26,5 +25,4 @@ pub mod WildTurns
 pub mod FoldTurns
 pub mod ReconstructTurns
 pub mod MinimiseTurns
-pub mod ThinTurns
 pub mod Cases

@@ -1,0 +1,67 @@
+ghost use mathlib.Core.Path.{_≡_};
+ghost use mathlib.Core.Bool.{false};
+ghost use Prim.Native.Nat.{_*_, _<_, _≤_};
+ghost use lib.Dec.{T};
+ghost use lib.ListN.{length};
+ghost use Rattle.morphology.specs.Element.{isMask};
+ghost use Rattle.morphology.specs.Image.{imageSet, pack, isClean};
+ghost use Rattle.morphology.specs.Thinning.{hit};
+ghost use Rattle.planes.specs.Frames.{Frame};
+ghost use Rattle.planes.specs.Neighbours.{nearBit, Margins, PlaneJoined};
+ghost use Rattle.thinning.specs.Hits.{widened, rowHits, hits};
+
+// The element's bit of the origin.
+const ORIGIN: u32 = 4096;
+
+// The element with the offsets of a mask's number.
+fn widen(mask: u32) -> u32
+    requires { ⌜ mask < 512 ⌝ }
+    ensures { λ e. ⌜ e ≡ widened mask ⌝ }
+{
+    mask % 8 * 64 + mask / 8 % 8 * 2048 + mask / 64 * 65536
+}
+
+// Joins what the elements fg and bg ask of row yk - 2 of an image to each row of out that asks for it.
+fn hit_near(
+    image: &[u8],
+    out: &mut [u8],
+    r: usize,
+    h: usize,
+    yk: usize,
+    fg: u32,
+    bg: u32,
+    ink: &mut [u8],
+    paper: &mut [u8],
+)
+    requires { ⌜ (h * r ≤ length (now image)) × (h * r ≤ length (now out)) × (r ≤ 128) × Margins r (now ink) × (length (now paper) ≡ 130) ⌝ }
+    ensures plane { λ _. ⌜ PlaneJoined false 0 r h (now (out .entry)) (now (out .exit)) (λ y x. rowHits fg bg (nearBit (now (image .entry)) r h) yk y x) ⌝ }
+    ensures margins { λ _. ⌜ Margins r (now (ink .exit)) ⌝ }
+{
+    planes::load_near(image, r, h, yk, ink);
+    planes::scatter_row(false, out, 0, r, h, yk, fg, &ink[..]);
+    raster::invert(&ink[..], paper);
+    planes::scatter_row(false, out, 0, r, h, yk, bg, &paper[..]);
+}
+
+// Joins what the elements fg and bg ask of an image to each row of out.
+fn hit_rows(image: &[u8], out: &mut [u8], r: usize, h: usize, fg: u32, bg: u32)
+    requires { ⌜ (h * r ≤ length (now image)) × (h * r ≤ length (now out)) × (r ≤ 128) × (h ≤ 1024) ⌝ }
+    ensures { λ _. ⌜ PlaneJoined false 0 r h (now (out .entry)) (now (out .exit)) (λ y x. hits fg bg (nearBit (now (image .entry)) r h) x y) ⌝ }
+{
+    let mut ink = [0u8; 130];
+    let mut paper = [0u8; 130];
+    let mut yk: usize = 0;
+    while yk < h + 4 {
+        hit_near(image, out, r, h, yk, fg, bg, &mut ink, &mut paper);
+        yk = yk + 1;
+    }
+}
+
+// The points of an image that a mask hits. The centre is foreground, so that out begins with the image.
+fn hit_plane(w: usize, h: usize, r: usize, fg: u32, bg: u32, image: &[u8], out: &mut [u8])
+    requires { ⌜ Frame w h r × (length (now image) ≡ h * r) × (length (now out) ≡ h * r) × T (isMask (fg, bg)) × T (isClean w h (now image)) ⌝ }
+    ensures { λ _. ⌜ now (out .exit) ≡ pack w h (hit (fg, bg) (imageSet w h (now (image .entry)))) ⌝ }
+{
+    raster::copy(image, out);
+    hit_rows(image, out, r, h, widen(fg) - ORIGIN, widen(bg));
+}
