@@ -38,10 +38,11 @@ pub hit-on : (W H : ℕ) (m : ℕ × ℕ) → T (isMask m) → (X : Point → Bo
 hit-on W H m t X on = on-sub W H (hit m X) X (hit-part m t X) on
 
 -- the promise of hit-or-miss
-pub hit-outcome : (W H : ℕ) (m : ℕ × ℕ) (image out s : List ℕ) → T (isMask m) → firstRefusal (hitRows W H m image out) ≡ 0
-    → s ≡ pack W H (hit m (imageSet W H image)) → hitOrMiss W H m image out ≡ outcome (foreground (onesOf s)) (s ∷ [])
+pub hit-outcome : (W H : ℕ) (m : ℕ × ℕ) (image out s : List ℕ) (n : ℕ) → T (isMask m) → firstRefusal (hitRows W H m image out) ≡ 0
+    → s ≡ pack W H (hit m (imageSet W H image)) → n ≡ onesOf s → outcome (foreground n) (s ∷ []) ≡ hitOrMiss W H m image out
 unfolding hitOrMiss
-hit-outcome W H m image out s t z q =
+hit-outcome W H m image out s n t z q k =
     let X = hit m (imageSet W H image) in
-    unless-in (firstRefusal (hitRows W H m image out)) (out ∷ []) (outcome (foreground (area W H X)) (pack W H X ∷ [])) z
-    ∙ ap₂ (λ (n : ℕ) (r : List ℕ). outcome (foreground n) (r ∷ [])) (area-pack W H X (hit-on W H m t (imageSet W H image) (image-on W H image)) ∙ ap onesOf (sym q)) (sym q)
+    sym (unless-in (firstRefusal (hitRows W H m image out)) (out ∷ []) (outcome (foreground (area W H X)) (pack W H X ∷ [])) z
+    ∙ ap₂ (λ (n : ℕ) (r : List ℕ). outcome (foreground n) (r ∷ []))
+    (area-pack W H X (hit-on W H m t (imageSet W H image) (image-on W H image)) ∙ ap onesOf (sym q) ∙ sym k) (sym q))

@@ -9,11 +9,11 @@ use lib.IntN.{pos}
 use lib.ListN.{getD, length}
 use Rattle.morphology.specs.Element.{bit, isMask, maskOffsets, offset, offsets, offsetsBelow}
 use Rattle.morphology.specs.Image.{imageSet, isClean, pack, stride}
-use Rattle.morphology.specs.Lists.{all, upTo}
+use Rattle.morphology.specs.Lists.{all}
 use Rattle.morphology.specs.Morphology.{erode}
 use Rattle.morphology.specs.Point.{Point, _⊞_, at}
 use Rattle.morphology.specs.Thinning.{hit}
-use Rattle.morphology.proofs.TestLaws.{and-l, and-r, upto, upto-out}
+use Rattle.morphology.proofs.TestLaws.{upto, upto-out}
 use Rattle.raster.specs.Rows.{Pixelwise, rowBit}
 use Rattle.planes.specs.Frames.{Frame}
 use Rattle.planes.specs.Neighbours.{NearRow, PlaneJoined, elementAsks, fiveOf, joined, nearBit, neighbours, rowAsks, turned}
@@ -23,6 +23,7 @@ use Rattle.planes.proofs.PlaneLaws.{frame-bytes}
 use Rattle.planes.proofs.ScatterLaws.{all-asked, joined-same, joined-two, plane-more, plane-same}
 use Rattle.planes.proofs.SetLaws.{near-image, neighbours-set, pack-pixels}
 use Rattle.thinning.specs.Hits.{hits, rowHits, widened}
+use Rattle.thinning.proofs.MaskLaws.{Mask, mask-of}
 
 -- ---- one row of an image
 
@@ -109,20 +110,10 @@ module _ (m : ℕ) (small : m < 512) where
       let d = none 20 9 tt refl (none 19 9 tt refl (one 18 8 tt refl refl (one 17 7 tt refl refl (one 16 6 tt refl refl c)))) in
       none 24 9 tt refl (none 23 9 tt refl (none 22 9 tt refl (none 21 9 tt refl d)))
 
--- what an accepted mask has
-pub record Mask (fg bg : ℕ) : Type 0 where
-  pub fg-small : fg < 512
-  pub bg-small : bg < 512
-  pub centre : widened fg / 4096 % 2 ≡ 1
-
-pub mask-of : (fg bg : ℕ) → T (isMask (fg, bg)) → Mask fg bg
-unfolding isMask placed
-mask-of fg bg t =
-    let overlap = all (λ i. not (bit fg i && bit bg i)) (upTo 9) in
-    let a = and-l (ltb fg (2 ^ 9) && ltb bg (2 ^ 9)) (bit fg 4 && overlap) t in
-    let b = and-l (bit fg 4) overlap (and-r (ltb fg (2 ^ 9) && ltb bg (2 ^ 9)) (bit fg 4 && overlap) t) in
-    let f = ltb→lt fg 512 (and-l (ltb fg (2 ^ 9)) (ltb bg (2 ^ 9)) a) in
-    record { fg-small = f; bg-small = ltb→lt bg 512 (and-r (ltb fg (2 ^ 9)) (ltb bg (2 ^ 9)) a); centre = digit fg f 12 tt ∙ eqb→eq (fg / 2 ^ 4 % 2) 1 b }
+-- the element has the origin where the mask has the centre
+pub widened-centre : (m : ℕ) → m < 512 → m / 16 % 2 ≡ 1 → widened m / 4096 % 2 ≡ 1
+unfolding placed
+widened-centre m small c = digit m small 12 tt ∙ c
 
 -- ---- the plane of hits
 
@@ -171,5 +162,5 @@ hits-done W H r fg bg e b image old new f len t clean bytes qe qb qo a =
         ap (rowBit new) (sym z) ∙ a .pixels y x hy hx
         ∙ and-assoc (rowBit old (8 * (0 + y * r) + x)) (neighbours false (e - 4096) near x y) n
         ∙ ap₂ (λ (c : Bool) (k : ℕ). (c && neighbours false (k - 4096) near x y) && n) (ap₂ rowBit qo z ∙ sym (near-itself image r H x y hy hx)) qe
-        ∙ ap₂ (λ (c : Bool) (k : ℕ). c && neighbours false k (λ X Y. not (near X Y)) x y) (origin-less false (widened fg) near x y (m .centre)) qb
+        ∙ ap₂ (λ (c : Bool) (k : ℕ). c && neighbours false k (λ X Y. not (near X Y)) x y) (origin-less false (widened fg) near x y (widened-centre fg (m .fg-small) (m .centre))) qb
         ∙ hits-set W H r fg bg image (f .row) m clean x y

@@ -1,3 +1,5 @@
+pub mod MaskLaws
+pub mod CallLaws
 pub mod HitLaws
 pub mod HitRows
 pub mod ThinTurns

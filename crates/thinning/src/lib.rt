@@ -1,14 +1,31 @@
 ghost use mathlib.Core.Path.{_≡_};
 ghost use mathlib.Core.Bool.{false};
+ghost use mathlib.Core.List.{[], _∷_};
 ghost use Prim.Native.Nat.{_*_, _<_, _≤_};
 ghost use lib.Dec.{T};
 ghost use lib.ListN.{length};
+ghost use Rattle.morphology.specs.Answers.{outcome};
 ghost use Rattle.morphology.specs.Element.{isMask};
 ghost use Rattle.morphology.specs.Image.{imageSet, pack, isClean};
+ghost use Rattle.morphology.specs.Operations.{hitOrMiss, hitRows};
+ghost use Rattle.morphology.specs.Refusals.{firstRefusal, row6};
 ghost use Rattle.morphology.specs.Thinning.{hit};
 ghost use Rattle.planes.specs.Frames.{Frame};
 ghost use Rattle.planes.specs.Neighbours.{nearBit, Margins, PlaneJoined};
 ghost use Rattle.thinning.specs.Hits.{widened, rowHits, hits};
+ghost use Rattle.thinning.specs.Hit.{answerOf};
+
+// The answer of hit-or-miss.
+pub enum Hit {
+    Refused(u8),
+    Area(u32),
+}
+
+// A mask's numbers end below this.
+const MASK_END: u32 = 512;
+
+// A mask's bit of the centre.
+const CENTRE: u32 = 16;
 
 // The element's bit of the origin.
 const ORIGIN: u32 = 4096;
@@ -64,4 +81,55 @@ fn hit_plane(w: usize, h: usize, r: usize, fg: u32, bg: u32, image: &[u8], out: 
 {
     raster::copy(image, out);
     hit_rows(image, out, r, h, widen(fg) - ORIGIN, widen(bg));
+}
+
+// Row 6: a mask has a bit above 8, lacks the centre in the foreground, or its two numbers overlap.
+fn bad_mask(fg: u32, bg: u32) -> bool
+    ensures { λ r. ⌜ r ≡ row6 (fg, bg) .1 ⌝ }
+{
+    if fg >= MASK_END {
+        return true;
+    }
+    if bg >= MASK_END {
+        return true;
+    }
+    if fg / CENTRE % 2 == 0 {
+        return true;
+    }
+    fg & bg != 0
+}
+
+// The first row of the table of refusals that applies to hit-or-miss; 0 if there is none.
+fn hit_refusal(w: u32, h: u32, fg: u32, bg: u32, image: &[u8], out: &[u8]) -> u8
+    ensures { λ r. ⌜ r ≡ firstRefusal (hitRows w h (fg, bg) (now (image .entry)) (now (out .entry))) ⌝ }
+{
+    if planes::refusals::bad_sides(w, h) {
+        return 1;
+    }
+    if planes::refusals::not_plane(w, h, image) {
+        return 3;
+    }
+    if planes::refusals::not_plane(w, h, out) {
+        return 3;
+    }
+    if planes::refusals::bad_padding(w, h, image) {
+        return 4;
+    }
+    if bad_mask(fg, bg) {
+        return 6;
+    }
+    0
+}
+
+// Hit-or-miss by one mask: the points of image that it hits, into out.
+pub fn hit_or_miss(w: u32, h: u32, fg: u32, bg: u32, image: &[u8], out: &mut [u8]) -> Hit
+    ensures { λ r. ⌜ outcome (answerOf r) (now (out .exit) ∷ []) ≡ hitOrMiss w h (fg, bg) (now (image .entry)) (now (out .entry)) ⌝ }
+{
+    let refusal = hit_refusal(w, h, fg, bg, image, &out[..]);
+    if refusal != 0 {
+        return Hit::Refused(refusal);
+    }
+    let wide = w as usize;
+    hit_plane(wide, h as usize, (wide + 7) / 8, fg, bg, image, out);
+    Hit::Area(raster::count_ones(&out[..]))
 }

@@ -3,7 +3,8 @@ use native.Mathlib.Omega.{arith}
 use borrow.Author.Needs.{needs}
 use denote.Ref.{now}
 use Rattle.planes.proofs.PlaneLaws.{frame-row}
-use Rattle.thinning.proofs.HitRows.{hits-done, mask-of}
+use Rattle.thinning.proofs.HitRows.{hits-done, widened-centre}
+use Rattle.thinning.proofs.MaskLaws.{mask-of}
 use Rattle.thinning.proofs.hit_plane.Statement.{statement}
 use Rattle.thinning.proofs.hit_plane.Tie as tie
 
@@ -14,7 +15,7 @@ widen-requires : tie.Need-widen-requires
 widen-requires c κs = let s = c .before .before .before .before .before .before .before in mask-of (s .args .fg) (s .args .bg) (s .pre .3) .fg-small
 
 sub-hit-rows : tie.Need-sub-hit-rows
-sub-hit-rows c = let s = c .before .before .before .before .before .before .before .before in let m = mask-of (s .args .fg) (s .args .bg) (s .pre .3) in omega (arith, c .widen .ensures, m .centre)
+sub-hit-rows c = let s = c .before .before .before .before .before .before .before .before in let m = mask-of (s .args .fg) (s .args .bg) (s .pre .3) in omega (arith, c .widen .ensures, widened-centre (s .args .fg) (m .fg-small) (m .centre))
 
 widen-requires-2 : tie.Need-widen-requires-2
 widen-requires-2 c κs = let s = c .before .before .before .before .before .before .before .before in mask-of (s .args .fg) (s .args .bg) (s .pre .3) .bg-small
