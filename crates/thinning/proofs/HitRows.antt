@@ -23,7 +23,7 @@ use Rattle.planes.proofs.PlaneLaws.{frame-bytes}
 use Rattle.planes.proofs.ScatterLaws.{all-asked, joined-same, joined-two, plane-more, plane-same}
 use Rattle.planes.proofs.SetLaws.{near-image, neighbours-set, pack-pixels}
 use Rattle.thinning.specs.Hits.{hits, rowHits, widened}
-use Rattle.thinning.proofs.MaskLaws.{Mask, mask-of}
+use Rattle.thinning.proofs.MaskLaws.{Accepted, mask-of}
 
 -- ---- one row of an image
 
@@ -118,7 +118,7 @@ widened-centre m small c = digit m small 12 tt ∙ c
 -- ---- the plane of hits
 
 -- at a point, by the sets
-hits-set : (W H r fg bg : ℕ) (image : List ℕ) → r ≡ stride W → Mask fg bg → T (isClean W H image) → (x y : ℕ)
+hits-set : (W H r fg bg : ℕ) (image : List ℕ) → r ≡ stride W → Accepted fg bg → T (isClean W H image) → (x y : ℕ)
     → hits (widened fg) (widened bg) (nearBit image r H) x y ≡ hit (fg, bg) (imageSet W H image) (at (pos x) (pos y))
 unfolding hit erode
 hits-set W H r fg bg image q m clean x y =
@@ -149,7 +149,7 @@ hits-done W H r fg bg e b image old new f len t clean bytes qe qb qo a =
     S : Point → Bool
     S = imageSet W H image
 
-    m : Mask fg bg
+    m : Accepted fg bg
     m = mask-of fg bg t
 
     near : ℕ → ℕ → Bool

@@ -3,3 +3,4 @@ pub mod CallLaws
 pub mod HitLaws
 pub mod HitRows
 pub mod ThinTurns
+pub mod PassLaws

@@ -9,10 +9,12 @@ ghost use Rattle.morphology.specs.Element.{isMask};
 ghost use Rattle.morphology.specs.Image.{imageSet, pack, isClean};
 ghost use Rattle.morphology.specs.Operations.{hitOrMiss, hitRows};
 ghost use Rattle.morphology.specs.Refusals.{firstRefusal, row6};
-ghost use Rattle.morphology.specs.Thinning.{hit};
+ghost use Rattle.morphology.specs.Thinning.{hit, golayL, thinStep, thinPass};
 ghost use Rattle.planes.specs.Frames.{Frame};
 ghost use Rattle.planes.specs.Neighbours.{nearBit, Margins, PlaneJoined};
+ghost use Rattle.steps.specs.Steps.{Sheet};
 ghost use Rattle.thinning.specs.Hits.{widened, rowHits, hits};
+ghost use Rattle.thinning.specs.Passes.{Leaves};
 ghost use Rattle.thinning.specs.Hit.{answerOf};
 
 // The answer of hit-or-miss.
@@ -20,6 +22,28 @@ pub enum Hit {
     Refused(u8),
     Area(u32),
 }
+
+// A hit-or-miss mask: foreground, background.
+struct Mask {
+    fg: u32,
+    bg: u32,
+}
+
+// The house set, Golay's L and its turns, in order: x is foreground, o background.
+//
+//     ooo  .oo  x.o  .x.  xxx  .x.  o.x  oo.
+//     .x.  xxo  xxo  xxo  .x.  oxx  oxx  oxx
+//     xxx  .x.  x.o  .oo  ooo  oo.  o.x  .x.
+const GOLAY_L: [Mask; 8] = [
+    Mask { fg: 464, bg: 7 },
+    Mask { fg: 152, bg: 38 },
+    Mask { fg: 89, bg: 292 },
+    Mask { fg: 26, bg: 416 },
+    Mask { fg: 23, bg: 448 },
+    Mask { fg: 50, bg: 200 },
+    Mask { fg: 308, bg: 73 },
+    Mask { fg: 176, bg: 11 },
+];
 
 // A mask's numbers end below this.
 const MASK_END: u32 = 512;
@@ -132,4 +156,35 @@ pub fn hit_or_miss(w: u32, h: u32, fg: u32, bg: u32, image: &[u8], out: &mut [u8
     let wide = w as usize;
     hit_plane(wide, h as usize, (wide + 7) / 8, fg, bg, image, out);
     Hit::Area(raster::count_ones(&out[..]))
+}
+
+// A step of thinning: all points that a mask hits are removed at once. The hits stand in the first plane of work.
+fn thin_step(
+    w: usize,
+    h: usize,
+    r: usize,
+    p: usize,
+    fg: u32,
+    bg: u32,
+    image: &mut [u8],
+    work: &mut [u8],
+)
+    requires { ⌜ Sheet w h r p × (length (now image) ≡ p) × (p ≤ length (now work)) × T (isMask (fg, bg)) × T (isClean w h (now image)) ⌝ }
+    ensures { λ _. ⌜ Leaves p (thinStep w h (fg, bg) (now (image .entry))) (now (image .exit)) (now (work .entry)) (now (work .exit)) ⌝ }
+{
+    hit_plane(w, h, r, fg, bg, &image[..], &mut work[..p]);
+    raster::subtract(&work[..p], image);
+}
+
+// A pass of thinning: a step by each mask of the house set, in order, each on the result of the last.
+fn thin_pass(w: usize, h: usize, r: usize, p: usize, image: &mut [u8], work: &mut [u8])
+    requires { ⌜ Sheet w h r p × (length (now image) ≡ p) × (p ≤ length (now work)) × T (isClean w h (now image)) ⌝ }
+    ensures { λ _. ⌜ Leaves p (thinPass w h golayL (now (image .entry))) (now (image .exit)) (now (work .entry)) (now (work .exit)) ⌝ }
+{
+    let mut k: usize = 0;
+    while k < 8 {
+        let mask = GOLAY_L[k];
+        thin_step(w, h, r, p, mask.fg, mask.bg, image, work);
+        k = k + 1;
+    }
 }
