@@ -4,7 +4,7 @@ use mathlib.Core.List.{List, List·Memᴰ, [], _∷_}
 use mathlib.Core.Path.{_∙_, _≡_, ap, ap₂, subst, sym}
 use Prim.Native.Nat.{_^_, ℕ}
 use lib.Dec.{T, lit<, ltb}
-use Rattle.morphology.specs.Answers.{foreground, outcome}
+use Rattle.morphology.specs.Answers.{foreground, outcome, refused}
 use Rattle.morphology.specs.Element.{bit, isMask, maskOffsets, offset}
 use Rattle.morphology.specs.Image.{imageSet, onesOf, pack}
 use Rattle.morphology.specs.Labels.{area}
@@ -21,6 +21,7 @@ use Rattle.morphology.proofs.PlaneLaws.{area-pack, on-sub}
 use Rattle.morphology.proofs.PointLaws.{unit}
 use Rattle.morphology.proofs.RefusalLaws.{unless-in}
 use Rattle.morphology.proofs.TestLaws.{all-out, and-l, and-r}
+use Rattle.thinning.proofs.CallLaws.{call-refused}
 
 pub mask-centre : (m : ℕ × ℕ) → T (isMask m) → List·Memᴰ origin (maskOffsets (m .0))
 unfolding isMask offset origin
@@ -37,7 +38,13 @@ hit-part m t X z u =
 pub hit-on : (W H : ℕ) (m : ℕ × ℕ) → T (isMask m) → (X : Point → Bool) → OnFrame W H X → OnFrame W H (hit m X)
 hit-on W H m t X on = on-sub W H (hit m X) X (hit-part m t X) on
 
--- the promise of hit-or-miss
+-- ---- the promise of hit-or-miss
+
+pub hit-refused : (W H : ℕ) (m : ℕ × ℕ) (image out : List ℕ) (r : ℕ) → r ≡ firstRefusal (hitRows W H m image out) → (r ≡ 0 → ⊥)
+    → outcome (refused r) (out ∷ []) ≡ hitOrMiss W H m image out
+unfolding hitOrMiss
+hit-refused W H m image out r q f = call-refused (hitRows W H m image out) (out ∷ []) _ r q f
+
 pub hit-outcome : (W H : ℕ) (m : ℕ × ℕ) (image out s : List ℕ) (n : ℕ) → T (isMask m) → firstRefusal (hitRows W H m image out) ≡ 0
     → s ≡ pack W H (hit m (imageSet W H image)) → n ≡ onesOf s → outcome (foreground n) (s ∷ []) ≡ hitOrMiss W H m image out
 unfolding hitOrMiss

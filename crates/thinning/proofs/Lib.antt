@@ -1,6 +1,7 @@
-pub mod MaskLaws
 pub mod CallLaws
-pub mod HitLaws
+pub mod MaskLaws
 pub mod HitRows
-pub mod ThinTurns
+pub mod HitLaws
 pub mod PassLaws
+pub mod ThinTurns
+pub mod EndLaws

@@ -7,20 +7,38 @@ ghost use lib.ListN.{length};
 ghost use Rattle.morphology.specs.Answers.{outcome};
 ghost use Rattle.morphology.specs.Element.{isMask};
 ghost use Rattle.morphology.specs.Image.{imageSet, pack, isClean};
-ghost use Rattle.morphology.specs.Operations.{hitOrMiss, hitRows};
+ghost use Rattle.morphology.specs.Operations.{hitOrMiss, hitRows, thinRows, thin as thinWhole};
 ghost use Rattle.morphology.specs.Refusals.{firstRefusal, row6};
 ghost use Rattle.morphology.specs.Thinning.{hit, golayL, thinStep, thinPass};
 ghost use Rattle.planes.specs.Frames.{Frame};
 ghost use Rattle.planes.specs.Neighbours.{nearBit, Margins, PlaneJoined};
 ghost use Rattle.steps.specs.Steps.{Sheet};
 ghost use Rattle.thinning.specs.Hits.{widened, rowHits, hits};
-ghost use Rattle.thinning.specs.Passes.{Leaves};
+ghost use Rattle.thinning.specs.Passes.{Leaves, Ended};
 ghost use Rattle.thinning.specs.Hit.{answerOf};
+ghost use Rattle.thinning.specs.Thinned.{answerOf as thinnedAnswer};
 
 // The answer of hit-or-miss.
 pub enum Hit {
     Refused(u8),
     Area(u32),
+}
+
+// The answer of thinning: passes made with the idle one, points removed, area left.
+pub enum Thinned {
+    Refused(u8),
+    Done {
+        passes: u32,
+        removed: u32,
+        left: u32,
+    },
+}
+
+// What the passes of thinning did.
+struct Tally {
+    passes: u32,
+    removed: u32,
+    left: u32,
 }
 
 // A hit-or-miss mask: foreground, background.
@@ -186,5 +204,66 @@ fn thin_pass(w: usize, h: usize, r: usize, p: usize, image: &mut [u8], work: &mu
         let mask = GOLAY_L[k];
         thin_step(w, h, r, p, mask.fg, mask.bg, image, work);
         k = k + 1;
+    }
+}
+
+// Passes of thinning until one removes nothing.
+fn thin_passes(w: usize, h: usize, r: usize, p: usize, image: &mut [u8], work: &mut [u8]) -> Tally
+    requires { ⌜ Sheet w h r p × (length (now image) ≡ p) × (p ≤ length (now work)) × T (isClean w h (now image)) ⌝ }
+    ensures { λ d. ⌜ Ended w h p (now (image .entry)) (now (image .exit)) (now (work .entry)) (now (work .exit)) (d .passes) (d .removed) (d .left) ⌝ }
+{
+    let before = raster::count_ones(&image[..]);
+    let mut left = before;
+    let mut passes: u32 = 0;
+    loop {
+        thin_pass(w, h, r, p, image, work);
+        passes = passes + 1;
+        let area = raster::count_ones(&image[..]);
+        if area == left {
+            return Tally {
+                passes,
+                removed: before - left,
+                left,
+            };
+        }
+        left = area;
+    }
+}
+
+// The first row of the table of refusals that applies to thinning; 0 if there is none.
+fn thin_refusal(w: u32, h: u32, image: &[u8], work: &[u8]) -> u8
+    ensures { λ r. ⌜ r ≡ firstRefusal (thinRows w h (now (image .entry)) (now (work .entry))) ⌝ }
+{
+    if planes::refusals::bad_sides(w, h) {
+        return 1;
+    }
+    if planes::refusals::not_plane(w, h, image) {
+        return 3;
+    }
+    if planes::refusals::short_work(w, h, work) {
+        return 3;
+    }
+    if planes::refusals::bad_padding(w, h, image) {
+        return 4;
+    }
+    0
+}
+
+// Thinning by the house set: the image in place.
+pub fn thin(w: u32, h: u32, image: &mut [u8], work: &mut [u8]) -> Thinned
+    ensures { λ r. ⌜ outcome (thinnedAnswer r) (now (image .exit) ∷ now (work .exit) ∷ []) ≡ thinWhole w h (now (image .entry)) (now (work .entry)) ⌝ }
+{
+    let row = thin_refusal(w, h, &image[..], &work[..]);
+    if row != 0 {
+        return Thinned::Refused(row);
+    }
+    let r = (w as usize + 7) / 8;
+    let p = h as usize * r;
+    let tally = thin_passes(w as usize, h as usize, r, p, image, work);
+    steps::clear_work(p, work);
+    Thinned::Done {
+        passes: tally.passes,
+        removed: tally.removed,
+        left: tally.left,
     }
 }

@@ -1,19 +1,15 @@
 -- `thinning::hit_or_miss` meets its contract.
-use mathlib.Core.List.{[], _∷_}
 use mathlib.Core.Path.{_∙_, ap, sym}
 use native.Mathlib.Omega.{arith}
 use borrow.Author.Needs.{needs}
 use denote.Ref.{now}
 use lib.ListN.{length}
-use Rattle.morphology.specs.Answers.{foreground, outcome}
-use Rattle.morphology.specs.Image.{imageSet, pack}
-use Rattle.morphology.specs.Labels.{area}
-use Rattle.morphology.specs.Operations.{hitOrMiss, hitRows}
+use Rattle.morphology.specs.Image.{imageSet}
 use Rattle.morphology.specs.Thinning.{hit}
 use Rattle.morphology.proofs.ImageLaws.{length-pack}
 use Rattle.planes.proofs.PlaneLaws.{frame-bytes}
-use Rattle.thinning.proofs.CallLaws.{call-refused, hit-ready}
-use Rattle.thinning.proofs.HitLaws.{hit-outcome}
+use Rattle.thinning.proofs.CallLaws.{hit-ready}
+use Rattle.thinning.proofs.HitLaws.{hit-outcome, hit-refused}
 use Rattle.thinning.proofs.hit_or_miss.Statement.{statement}
 use Rattle.thinning.proofs.hit_or_miss.Tie as tie
 
@@ -24,12 +20,9 @@ same-length : tie.Need-same-length
 same-length c = search needs
 
 returns : tie.Need-returns
-unfolding hitOrMiss
 returns c =
     let a = c .before .before .before .before .before .args in
-    let X = hit (a .fg, a .bg) (imageSet (a .w) (a .h) (now (a .image))) in
-    call-refused (hitRows (a .w) (a .h) (a .fg, a .bg) (now (a .image)) (now (a .out))) (now (a .out) ∷ [])
-    (outcome (foreground (area (a .w) (a .h) X)) (pack (a .w) (a .h) X ∷ [])) _ (c .before .hit-refusal .ensures) (c .if1 .taken)
+    hit-refused (a .w) (a .h) (a .fg, a .bg) (now (a .image)) (now (a .out)) _ (c .before .hit-refusal .ensures) (c .if1 .taken)
 
 add-hit-plane : tie.Need-add-hit-plane
 add-hit-plane c = search needs
