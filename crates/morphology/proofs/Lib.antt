@@ -17,12 +17,10 @@ pub mod CoverLaws
 pub mod ThinningLaws
 pub mod CountLaws
 pub mod PlaneLaws
-pub mod HitLaws
 pub mod DecomposeLaws
 pub mod ReconstructLaws
 pub mod CoverCountLaws
 pub mod OutcomeLaws
 pub mod FoldTurns
 pub mod MinimiseTurns
-pub mod ThinTurns
 pub mod Cases

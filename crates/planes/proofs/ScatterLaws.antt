@@ -24,7 +24,7 @@ join-four t a b c d =
     join-assoc t a b (join t c d) ∙ ap (join t a) (sym (join-assoc t b c d) ∙ ap (λ (e : Bool). join t e d) (join-comm t b c) ∙ join-assoc t c b d)
     ∙ sym (join-assoc t a c (join t b d))
 
-joined-two : (t : Bool) (n : ℕ) (f g : ℕ → Bool) → joined t n (λ i. join t (f i) (g i)) ≡ join t (joined t n f) (joined t n g)
+pub joined-two : (t : Bool) (n : ℕ) (f g : ℕ → Bool) → joined t n (λ i. join t (f i) (g i)) ≡ join t (joined t n f) (joined t n g)
 unfolding joined
 joined-two t zero f g = sym (unit-join t (not t))
 joined-two t (suc n) f g =

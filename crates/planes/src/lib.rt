@@ -24,7 +24,7 @@ fn is_near(h: usize, yk: usize) -> bool
 }
 
 // Row yk - 2 of a plane, or background where there is no such row, into the row buffer.
-fn load_near(plane: &[u8], r: usize, h: usize, yk: usize, buf: &mut [u8])
+pub fn load_near(plane: &[u8], r: usize, h: usize, yk: usize, buf: &mut [u8])
     requires { ⌜ (h * r ≤ length (now plane)) × (r ≤ 128) × Margins r (now buf) ⌝ }
     ensures { λ _. ⌜ NearRow (now (plane .entry)) r h yk (now (buf .exit)) ⌝ }
 {
@@ -103,7 +103,7 @@ fn scatter_five(
 }
 
 // Joins the row yk - 2 in buf to each row of the plane at p that asks for it.
-fn scatter_row(
+pub fn scatter_row(
     dilating: bool,
     work: &mut [u8],
     p: usize,

@@ -138,12 +138,16 @@ pub full-bit : (k : ℕ) → k < 8 → bitOf 255 k ≡ true
 unfolding bitOf
 full-bit k h = below8 (λ (k : ℕ). eqb (255 / 2 ^ (7 - k) % 2) 1 ≡ true) refl refl refl refl refl refl refl refl k h
 
--- pixels of a less those of b
-pub less-bit : (a b k : ℕ) → k < 8 → bitOf (bitAnd a (bitXor b 255)) k ≡ (bitOf a k && not (bitOf b k))
+-- foreground and background exchanged
+pub inverted-bit : (b k : ℕ) → k < 8 → bitOf (bitXor b 255) k ≡ not (bitOf b k)
 unfolding bitOf xor
-less-bit a b k h =
-    bit-and a (bitXor b 255) (7 - k) ∙ ap (λ (c : Bool). bit a (7 - k) && c) (bit-xor b 255 (7 - k) ∙ ap (xor (bit b (7 - k))) (full-bit k h) ∙ flip (bit b (7 - k)))
+inverted-bit b k h = bit-xor b 255 (7 - k) ∙ ap (xor (bit b (7 - k))) (full-bit k h) ∙ flip (bit b (7 - k))
   where
     flip : (c : Bool) → xor c true ≡ not c
     flip true = refl
     flip false = refl
+
+-- pixels of a less those of b
+pub less-bit : (a b k : ℕ) → k < 8 → bitOf (bitAnd a (bitXor b 255)) k ≡ (bitOf a k && not (bitOf b k))
+unfolding bitOf
+less-bit a b k h = bit-and a (bitXor b 255) (7 - k) ∙ ap (λ (c : Bool). bit a (7 - k) && c) (inverted-bit b k h)

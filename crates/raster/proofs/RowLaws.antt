@@ -11,7 +11,7 @@ use lib.Dec.{eqb}
 use lib.ListN.{getD, length}
 use Rattle.morphology.specs.Image.{bitOf}
 use Rattle.raster.specs.Rows.{Pixelwise, RowJoined, join, joinByte, rowBit}
-use Rattle.raster.proofs.ByteLaws.{join-bit, less-bit, moved-bit, movedByte, win, win-left, win-right}
+use Rattle.raster.proofs.ByteLaws.{inverted-bit, join-bit, less-bit, moved-bit, movedByte, win, win-left, win-right}
 use Rattle.raster.proofs.LoopLaws.{Mapped}
 
 -- pixel 8 q + m of a row
@@ -85,6 +85,13 @@ pub row-subtracted : (src old new : List ℕ) (n : ℕ) → length old ≤ n →
 row-subtracted src old new n h m =
     mapped-pixels old new (λ j. bitAnd (getD old j 0) (bitXor (getD src j 0) 255)) (λ x b. b && not (rowBit src x)) n h m (λ i k hi hk.
     less-bit (getD old i 0) (getD src i 0) k hk ∙ ap (λ (c : Bool). bitOf (getD old i 0) k && not c) (sym (rowBit-at src i k hk)))
+
+-- the end of `invert`
+pub row-inverted : (src old new : List ℕ) (n : ℕ) → length old ≤ n → Mapped (λ j. bitXor (getD src j 0) 255) old new n
+    → Pixelwise old new (λ x b. not (rowBit src x))
+row-inverted src old new n h m =
+    mapped-pixels old new (λ j. bitXor (getD src j 0) 255) (λ x b. not (rowBit src x)) n h m
+    (λ i k hi hk. inverted-bit (getD src i 0) k hk ∙ ap not (sym (rowBit-at src i k hk)))
 
 -- ---- a row within a buffer of rows
 

@@ -116,6 +116,18 @@ pub fn subtract(src: &[u8], dst: &mut [u8])
     }
 }
 
+// dst becomes src with foreground and background exchanged.
+pub fn invert(src: &[u8], dst: &mut [u8])
+    requires { ⌜ length (now src) ≡ length (now dst) ⌝ }
+    ensures { λ _. ⌜ Pixelwise (now (dst .entry)) (now (dst .exit)) (λ x b. not (rowBit (now (src .entry)) x)) ⌝ }
+{
+    let mut i: usize = 0;
+    while i < dst.len() {
+        dst[i] = src[i] ^ 255;
+        i = i + 1;
+    }
+}
+
 // The number of ones in few bytes: it fits a byte.
 fn count_part(s: &[u8]) -> u8
     requires { ⌜ length (now s) ≤ 16 ⌝ }

@@ -9,17 +9,18 @@ use native.Mathlib.Omega.{arith}
 use borrow.Author.Tests.{eq-eqb, ne-eqb}
 use lib.ListN.{getD, take}
 use lib.Seq.{take-suc}
-use Rattle.morphology.specs.Answers.{Outcome, outcome, thinned}
+use Rattle.morphology.specs.Answers.{Outcome, outcome, refused, thinned}
 use Rattle.morphology.specs.Image.{imageSet}
 use Rattle.morphology.specs.Operations.{cleared, thin, thinRows}
 use Rattle.morphology.specs.Point.{Point}
 use Rattle.morphology.specs.Refusals.{firstRefusal}
 use Rattle.morphology.specs.Thinning.{Thinned, golayL, hit, thinPass, thinPasses, thinStep}
 use Rattle.morphology.proofs.ImageLaws.{image-on}
-use Rattle.morphology.proofs.PlaneLaws.{Plane, on-sub, plane-inj, plane-pack}
+use Rattle.morphology.proofs.PlaneLaws.{Plane, on-sub, plane-pack}
 use Rattle.morphology.proofs.RefusalLaws.{unless-in}
 use Rattle.morphology.proofs.TestLaws.{and-l}
-use Rattle.morphology.proofs.ThinningLaws.{area-whole, ends, less, pass, pass-part, passes-suc, points, thin-enough}
+use Rattle.morphology.proofs.ThinningLaws.{ends, less, pass, passes-suc, points, thin-enough}
+use Rattle.thinning.proofs.CallLaws.{call-refused}
 
 module _ (W H : ℕ) where
   -- ---- a pass
@@ -102,25 +103,25 @@ module _ (W H : ℕ) where
       let u = pass W H t in
       q ∙ ap (after n) (passes-suc W H (points W H t) t ∙ ap (ends W H t (thinPasses (points W H t) W H u)) (eq-eqb (points W H t) (points W H u) e))
 
-  -- it changes no byte
-  pub idle-same : (t : List ℕ) → Plane W H t → points W H t ≡ points W H (pass W H t) → pass W H t ≡ t
-  idle-same t p e =
-      plane-inj W H (pass W H t) t (plane-pass golayL t p) p
-      (area-whole W H (imageSet W H (pass W H t)) (imageSet W H t) (image-on W H t) (pass-part W H golayL t) (sym e))
-
   -- each pass that is not idle removes a point: the measure, and the bound of the counter
   pub passed-bound : (n p : ℕ) (t : List ℕ) → n + points W H t ≤ p → (points W H t ≡ points W H (pass W H t) → ⊥)
       → n + 1 + points W H (pass W H t) ≤ p
   passed-bound n p t h f = let l = less W H t (ne-eqb (points W H t) (points W H (pass W H t)) f) in omega arith
 
-  -- the promise of thinning, after n passes that were not idle and one that was
-  pub thin-outcome : (image work : List ℕ) (n : ℕ) (t : List ℕ) → firstRefusal (thinRows W H image work) ≡ 0
-      → Passed image n t → Plane W H t → points W H t ≡ points W H (pass W H t)
-      → thin W H image work ≡ outcome (thinned (n + 1) (points W H image - points W H t) (points W H t)) (t ∷ cleared W H work ∷ [])
+  -- ---- the promise of thinning
+
+  pub thin-refused : (image work : List ℕ) (r : ℕ) → r ≡ firstRefusal (thinRows W H image work) → (r ≡ 0 → ⊥)
+      → outcome (refused r) (image ∷ work ∷ []) ≡ thin W H image work
   unfolding thin
-  thin-outcome image work n t z q p e =
-      unless-in (firstRefusal (thinRows W H image work)) (image ∷ work ∷ []) (left (thinPasses (suc (points W H image)) W H image)) z
-      ∙ ap left (passed-last image n t q e) ∙ ap (λ (s : List ℕ). left (record { image = s; passes = n + 1 })) (idle-same t p e)
+  thin-refused image work r q f = call-refused (thinRows W H image work) (image ∷ work ∷ []) _ r q f
+
+  -- from what the passes leave
+  pub thin-outcome : (image work t : List ℕ) (n : ℕ) → firstRefusal (thinRows W H image work) ≡ 0
+      → _≡_ {A = Thinned} (thinPasses (suc (points W H image)) W H image) (record { image = t; passes = n })
+      → thin W H image work ≡ outcome (thinned n (points W H image - points W H t) (points W H t)) (t ∷ cleared W H work ∷ [])
+  unfolding thin
+  thin-outcome image work t n z q =
+      unless-in (firstRefusal (thinRows W H image work)) (image ∷ work ∷ []) (left (thinPasses (suc (points W H image)) W H image)) z ∙ ap left q
     where
       -- what thinning leaves
       left : Thinned → Outcome

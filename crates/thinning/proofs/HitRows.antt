@@ -1,0 +1,166 @@
+-- What a mask asks, row by row, and the plane of its hits.
+use mathlib.Core.Bool.{Bool, _&&_, cond, false, not, true}
+use mathlib.Core.List.{List, _∷_}
+use mathlib.Core.Path.{_∙_, _≡_, ap, ap₂, refl, subst, sym}
+use Prim.Native.Nat.{_%_, _*_, _+_, _-_, _/_, _<_, _^_, _≤_, suc, ℕ}
+use native.Mathlib.Omega.{arith}
+use lib.Dec.{T, eqb, eqb→eq, leb, ltb, ltb→lt}
+use lib.IntN.{pos}
+use lib.ListN.{getD, length}
+use Rattle.morphology.specs.Element.{bit, isMask, maskOffsets, offset, offsets, offsetsBelow}
+use Rattle.morphology.specs.Image.{imageSet, isClean, pack, stride}
+use Rattle.morphology.specs.Lists.{all}
+use Rattle.morphology.specs.Morphology.{erode}
+use Rattle.morphology.specs.Point.{Point, _⊞_, at}
+use Rattle.morphology.specs.Thinning.{hit}
+use Rattle.morphology.proofs.TestLaws.{upto, upto-out}
+use Rattle.raster.specs.Rows.{Pixelwise, rowBit}
+use Rattle.planes.specs.Frames.{Frame}
+use Rattle.planes.specs.Neighbours.{NearRow, PlaneJoined, elementAsks, fiveOf, joined, nearBit, neighbours, rowAsks, turned}
+use Rattle.planes.proofs.CentreLaws.{near-itself, origin-less}
+use Rattle.planes.proofs.NeighbourLaws.{joined-more, turned-lt}
+use Rattle.planes.proofs.PlaneLaws.{frame-bytes}
+use Rattle.planes.proofs.ScatterLaws.{all-asked, joined-same, joined-two, plane-more, plane-same}
+use Rattle.planes.proofs.SetLaws.{near-image, neighbours-set, pack-pixels}
+use Rattle.thinning.specs.Hits.{hits, rowHits, widened}
+use Rattle.thinning.proofs.MaskLaws.{Accepted, mask-of}
+
+-- ---- one row of an image
+
+-- an element at x asks for the pixels of a row up to x + 10
+asks-within : (t : Bool) (e Y y x : ℕ) (f g : ℕ → Bool) → ((X : ℕ) → X < x + 11 → f X ≡ g X) → elementAsks t e f Y y x ≡ elementAsks t e g Y y x
+unfolding fiveOf
+asks-within t e Y y x f g h =
+    joined-same t 5 (rowAsks t e f Y y x) (rowAsks t e g Y y x) (λ k lk.
+    ap (λ (b : Bool). cond (eqb (y + turned t k) Y) b (not t))
+    (joined-same t 5 (λ j. cond (bit (e / 2 ^ (k * 5)) j) (f (x + (turned t j + 6))) (not t)) (λ j. cond (bit (e / 2 ^ (k * 5)) j) (g (x + (turned t j + 6))) (not t)) (λ j lj.
+    ap (λ (b : Bool). cond (bit (e / 2 ^ (k * 5)) j) b (not t)) (h (x + (turned t j + 6)) (omega (arith, turned-lt t j lj))))))
+
+-- what the elements ask of the row in one buffer and of the row inverted in the other
+pub row-hits : (r h fg bg Y : ℕ) (image ink paper₀ paper u v w : List ℕ) → r ≤ 128 → length paper₀ ≡ 130 → NearRow image r h Y ink
+    → PlaneJoined false 0 r h u v (λ y x. elementAsks false fg (rowBit ink) Y y x)
+    → Pixelwise paper₀ paper (λ x b. not (rowBit ink x))
+    → PlaneJoined false 0 r h v w (λ y x. elementAsks false bg (rowBit paper) Y y x)
+    → PlaneJoined false 0 r h u w (λ y x. rowHits fg bg (nearBit image r h) Y y x)
+row-hits r h fg bg Y image ink paper₀ paper u v w hr len near a inverted b = record {
+  size = b .size ∙ a .size;
+  before = λ j l. b .before j l ∙ a .before j l;
+  after = λ j l. b .after j l ∙ a .after j l;
+  pixels = λ y x ly lx.
+      plane-more false 0 r h u v w (λ y x. elementAsks false fg (rowBit ink) Y y x) (λ y x. elementAsks false bg (rowBit paper) Y y x) a b .pixels y x ly lx
+      ∙ ap (λ (c : Bool). rowBit u (8 * (0 + y * r) + x) && c)
+      (ap₂ (λ (c d : Bool). c && d)
+      (asks-within false fg Y y x (rowBit ink) (λ X. nearBit image r h X Y) (λ X l. near .pixels X))
+      (asks-within false bg Y y x (rowBit paper) (λ X. not (nearBit image r h X Y)) (λ X l. inverted .pixels X (omega arith) ∙ ap not (near .pixels X))));
+}
+
+-- ---- all rows
+
+-- one row of the image more
+pub rows-more : (r h fg bg Y : ℕ) (near : ℕ → ℕ → Bool) (u v w : List ℕ)
+    → PlaneJoined false 0 r h u v (λ y x. joined false Y (λ Y. rowHits fg bg near Y y x))
+    → PlaneJoined false 0 r h v w (λ y x. rowHits fg bg near Y y x)
+    → PlaneJoined false 0 r h u w (λ y x. joined false (Y + 1) (λ Y. rowHits fg bg near Y y x))
+rows-more r h fg bg Y near u v w a b =
+    plane-same (plane-more false 0 r h u v w (λ y x. joined false Y (λ Y. rowHits fg bg near Y y x)) (λ y x. rowHits fg bg near Y y x) a b)
+    (λ y x l. ap (λ (c : Bool). rowBit u (8 * (0 + y * r) + x) && c) (sym (joined-more false Y (λ Y. rowHits fg bg near Y y x))))
+
+pub rows-done : (r h fg bg n : ℕ) (near : ℕ → ℕ → Bool) (u v : List ℕ) → n ≡ h + 4
+    → PlaneJoined false 0 r h u v (λ y x. joined false n (λ Y. rowHits fg bg near Y y x)) → PlaneJoined false 0 r h u v (λ y x. hits fg bg near x y)
+rows-done r h fg bg n near u v en a =
+    plane-same a (λ y x l. ap (λ (c : Bool). rowBit u (8 * (0 + y * r) + x) && c)
+    (joined-two false n (λ Y. elementAsks false fg (λ X. near X Y) Y y x) (λ Y. elementAsks false bg (λ X. not (near X Y)) Y y x)
+    ∙ ap₂ (λ (c d : Bool). c && d) (all-asked false fg h x y n near l en) (all-asked false bg h x y n (λ X Y. not (near X Y)) l en)))
+
+-- ---- a mask's number as an element's
+
+-- bit i of the element: bit (i % 5 - 1) of row (i / 5 - 1) of the mask, or none
+placed : ℕ → ℕ → ℕ
+placed m i = cond (inner (i % 5) && inner (i / 5)) (m / 2 ^ ((i / 5 - 1) * 3 + (i % 5 - 1)) % 2) 0
+  where
+    inner : ℕ → Bool
+    inner k = leb 1 k && leb k 3
+
+digit : (m : ℕ) → m < 512 → (i : ℕ) → T (ltb i 25) → widened m / 2 ^ i % 2 ≡ placed m i
+unfolding placed
+digit m small i l =
+    let right : ℕ → ℕ → Bool = λ m i. eqb (widened m / 2 ^ i % 2) (placed m i) in
+    eqb→eq (widened m / 2 ^ i % 2) (placed m i) (upto-out (right m) 25 i (ltb→lt i 25 l) (upto-out (λ m. upto (right m) 25) 512 m small tt))
+
+module _ (m : ℕ) (small : m < 512) where
+  -- a bit that no offset of a mask has
+  none : (i j : ℕ) → T (ltb i 25) → placed m i ≡ 0 → offsetsBelow 2 (widened m) i ≡ offsetsBelow 1 m j → offsetsBelow 2 (widened m) (suc i) ≡ offsetsBelow 1 m j
+  unfolding offsetsBelow
+  none i j l d h = ap (λ (n : ℕ). cond (eqb n 1) (offset 2 i ∷ offsetsBelow 2 (widened m) i) (offsetsBelow 2 (widened m) i)) (digit m small i l ∙ d) ∙ h
+
+  -- bit j of the mask
+  one : (i j : ℕ) → T (ltb i 25) → placed m i ≡ m / 2 ^ j % 2 → offset 2 i ≡ offset 1 j → offsetsBelow 2 (widened m) i ≡ offsetsBelow 1 m j
+      → offsetsBelow 2 (widened m) (suc i) ≡ offsetsBelow 1 m (suc j)
+  unfolding offsetsBelow
+  one i j l d o h =
+      ap (λ (n : ℕ). cond (eqb n 1) (offset 2 i ∷ offsetsBelow 2 (widened m) i) (offsetsBelow 2 (widened m) i)) (digit m small i l ∙ d)
+      ∙ ap₂ (λ (p : Point) (l : List Point). cond (eqb (m / 2 ^ j % 2) 1) (p ∷ l) l) o h
+
+  pub widened-offsets : offsets (widened m) ≡ maskOffsets m
+  unfolding offsets offsetsBelow offset placed
+  widened-offsets =
+      let a = none 5 0 tt refl (none 4 0 tt refl (none 3 0 tt refl (none 2 0 tt refl (none 1 0 tt refl (none 0 0 tt refl refl))))) in
+      let b = none 10 3 tt refl (none 9 3 tt refl (one 8 2 tt refl refl (one 7 1 tt refl refl (one 6 0 tt refl refl a)))) in
+      let c = none 15 6 tt refl (none 14 6 tt refl (one 13 5 tt refl refl (one 12 4 tt refl refl (one 11 3 tt refl refl b)))) in
+      let d = none 20 9 tt refl (none 19 9 tt refl (one 18 8 tt refl refl (one 17 7 tt refl refl (one 16 6 tt refl refl c)))) in
+      none 24 9 tt refl (none 23 9 tt refl (none 22 9 tt refl (none 21 9 tt refl d)))
+
+-- the element has the origin where the mask has the centre
+pub widened-centre : (m : ℕ) → m < 512 → m / 16 % 2 ≡ 1 → widened m / 4096 % 2 ≡ 1
+unfolding placed
+widened-centre m small c = digit m small 12 tt ∙ c
+
+-- ---- the plane of hits
+
+-- at a point, by the sets
+hits-set : (W H r fg bg : ℕ) (image : List ℕ) → r ≡ stride W → Accepted fg bg → T (isClean W H image) → (x y : ℕ)
+    → hits (widened fg) (widened bg) (nearBit image r H) x y ≡ hit (fg, bg) (imageSet W H image) (at (pos x) (pos y))
+unfolding hit erode
+hits-set W H r fg bg image q m clean x y =
+    ap₂ (λ (a b : Bool). a && b)
+    ((λ i. neighbours false (widened fg) (λ X Y. near-image W H r image q clean X Y i) x y) ∙ neighbours-set false (widened fg) S x y
+    ∙ ap (λ (B : List Point). all (λ b. S (z ⊞ b)) B) (widened-offsets fg (m .fg-small)))
+    ((λ i. neighbours false (widened bg) (λ X Y. not (near-image W H r image q clean X Y i)) x y) ∙ neighbours-set false (widened bg) (λ p. not (S p)) x y
+    ∙ ap (λ (B : List Point). all (λ b. not (S (z ⊞ b))) B) (widened-offsets bg (m .bg-small)))
+  where
+    S : Point → Bool
+    S = imageSet W H image
+
+    z : Point
+    z = at (pos x) (pos y)
+
+and-assoc : (a b c : Bool) → (a && (b && c)) ≡ ((a && b) && c)
+and-assoc true b c = refl
+and-assoc false b c = refl
+
+-- the image, and what the mask asks without its centre
+pub hits-done : (W H r fg bg e b : ℕ) (image old new : List ℕ) → Frame W H r → length image ≡ H * r → T (isMask (fg, bg)) → T (isClean W H image)
+    → ((i : ℕ) → getD new i 0 < 256) → e ≡ widened fg → b ≡ widened bg → old ≡ image
+    → PlaneJoined false 0 r H old new (λ y x. hits (e - 4096) b (nearBit image r H) x y) → new ≡ pack W H (hit (fg, bg) (imageSet W H image))
+hits-done W H r fg bg e b image old new f len t clean bytes qe qb qo a =
+    sym (pack-pixels W H (hit (fg, bg) S) new (a .size ∙ ap length qo ∙ len ∙ frame-bytes f) bytes
+    (subst (λ (k : ℕ). (y x : ℕ) → y < H → x < 8 * k → rowBit new (8 * (y * k) + x) ≡ hit (fg, bg) S (at (pos x) (pos y))) (f .row) bits))
+  where
+    S : Point → Bool
+    S = imageSet W H image
+
+    m : Accepted fg bg
+    m = mask-of fg bg t
+
+    near : ℕ → ℕ → Bool
+    near = nearBit image r H
+
+    bits : (y x : ℕ) → y < H → x < 8 * r → rowBit new (8 * (y * r) + x) ≡ hit (fg, bg) S (at (pos x) (pos y))
+    bits y x hy hx =
+        let z : 8 * (0 + y * r) + x ≡ 8 * (y * r) + x = omega arith in
+        let n = neighbours false b (λ X Y. not (near X Y)) x y in
+        ap (rowBit new) (sym z) ∙ a .pixels y x hy hx
+        ∙ and-assoc (rowBit old (8 * (0 + y * r) + x)) (neighbours false (e - 4096) near x y) n
+        ∙ ap₂ (λ (c : Bool) (k : ℕ). (c && neighbours false (k - 4096) near x y) && n) (ap₂ rowBit qo z ∙ sym (near-itself image r H x y hy hx)) qe
+        ∙ ap₂ (λ (c : Bool) (k : ℕ). c && neighbours false k (λ X Y. not (near X Y)) x y) (origin-less false (widened fg) near x y (widened-centre fg (m .fg-small) (m .centre))) qb
+        ∙ hits-set W H r fg bg image (f .row) m clean x y

@@ -1,0 +1,7 @@
+pub mod CallLaws
+pub mod MaskLaws
+pub mod HitRows
+pub mod HitLaws
+pub mod PassLaws
+pub mod ThinTurns
+pub mod EndLaws

@@ -1,0 +1,45 @@
+-- `thinning::hit_plane` meets its contract.
+use native.Mathlib.Omega.{arith}
+use borrow.Author.Needs.{needs}
+use denote.Ref.{now}
+use Rattle.planes.proofs.PlaneLaws.{frame-row}
+use Rattle.thinning.proofs.HitRows.{hits-done, widened-centre}
+use Rattle.thinning.proofs.MaskLaws.{mask-of}
+use Rattle.thinning.proofs.hit_plane.Statement.{statement}
+use Rattle.thinning.proofs.hit_plane.Tie as tie
+
+copy-requires : tie.Need-copy-requires
+copy-requires c κs = search needs
+
+widen-requires : tie.Need-widen-requires
+widen-requires c κs = let s = c .before .before .before .before .before .before .before in mask-of (s .args .fg) (s .args .bg) (s .pre .3) .fg-small
+
+sub-hit-rows : tie.Need-sub-hit-rows
+sub-hit-rows c = let s = c .before .before .before .before .before .before .before .before in let m = mask-of (s .args .fg) (s .args .bg) (s .pre .3) in omega (arith, c .widen .ensures, widened-centre (s .args .fg) (m .fg-small) (m .centre))
+
+widen-requires-2 : tie.Need-widen-requires-2
+widen-requires-2 c κs = let s = c .before .before .before .before .before .before .before .before in mask-of (s .args .fg) (s .args .bg) (s .pre .3) .bg-small
+
+hit-rows-requires : tie.Need-hit-rows-requires
+hit-rows-requires c κs = let s = c .before .before .before .before .before .before .before .before .before in (omega (arith, s .pre .1), omega (arith, s .pre .2), frame-row (s .pre .0) .3, s .pre .0 .down)
+
+same-length : tie.Need-same-length
+same-length c = search needs
+
+returns : tie.Need-returns
+returns c =
+    let s = c .before .before .before .before .before .before .before .before .before .before .before .before in
+    let a = s .args in
+    hits-done (a .w) (a .h) (a .r) (a .fg) (a .bg) _ _ (now (a .image)) _ _ (s .pre .0) (s .pre .1) (s .pre .3) (s .pre .4) (λ i. c .slice-known3 .given i .fits) (c .before .before .before .before .widen .ensures) (c .before .before .before .widen2 .ensures) (c .before .before .before .before .before .before .before .before .copy .ensures) (c .before .before .hit-rows .ensures)
+
+pub hit-plane-spec : {M : Type 1} → statement M
+hit-plane-spec =
+    tie.close
+    (tie.spec
+    copy-requires
+    widen-requires
+    sub-hit-rows
+    widen-requires-2
+    hit-rows-requires
+    same-length
+    returns)

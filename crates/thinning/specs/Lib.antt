@@ -1,0 +1,4 @@
+pub mod Hits
+pub mod Hit
+pub mod Passes
+pub mod Thinned
