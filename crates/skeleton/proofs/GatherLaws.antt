@@ -20,7 +20,7 @@ use Rattle.morphology.specs.Skeleton.{reconstruction}
 use Rattle.morphology.proofs.CountLaws.{getD-greatest}
 use Rattle.morphology.proofs.ElementLaws.{element}
 use Rattle.morphology.proofs.FrameLaws.{OnFrame}
-use Rattle.morphology.proofs.ImageLaws.{Agree, clean-agree, image-agree, image-on, length-pack}
+use Rattle.morphology.proofs.ImageLaws.{Agree, clean-agree, image-agree, length-pack}
 use Rattle.morphology.proofs.MorphologyLaws.{dilate-zero}
 use Rattle.morphology.proofs.PlaneLaws.{pack-empty}
 use Rattle.morphology.proofs.ReconstructLaws.{dilated-suc, partial-top, reconstruction-on, union-at-on, union-dilated, union-on, union-turn}
@@ -32,7 +32,7 @@ use Rattle.labels.specs.Points.{withPoints}
 use Rattle.raster.specs.Rows.{overwrite}
 use Rattle.raster.proofs.PartLaws.{overwrite-all}
 use Rattle.steps.specs.Steps.{First, Sheet, dilated}
-use Rattle.steps.proofs.StepLaws.{dilated-is, dilated-on, first-as, first-clean, first-image, first-next}
+use Rattle.steps.proofs.StepLaws.{dilated-is, first-as, first-clean, first-image, first-next}
 use Rattle.skeleton.specs.Gathered.{Kept, Tame, gathered, grown}
 
 -- the largest label bounds them all
@@ -52,22 +52,20 @@ label-greatest W H m p = by (p .x) (p .y)
 -- ---- one size
 
 -- what the first plane, lent as a part and back, holds of it
-module _ (W H p : ℕ) (q : p ≡ planeBytes W H) (B : List Point) (m : List ℕ) (v : ℕ) (w u ys : List ℕ) (h : 2 * p ≤ length w) (clean : T (isClean W H w))
-    (a : First W H p (dilated W H B 1 (imageSet W H w)) w u) where
+module _ (W H p : ℕ) (q : p ≡ planeBytes W H) (S : Point → Bool) (on : OnFrame W H S) (w u : List ℕ) (h : 2 * p ≤ length w) (a : First W H p S w u) where
   pub taken : length (take p u) ≡ p
   taken = length-take-le p u (omega (arith, a .size))
 
   agree : Agree W H (take p u) u
   agree j l = getD-take p u j 0 (omega arith)
 
-  on : OnFrame W H (dilated W H B 1 (imageSet W H w))
-  on = dilated-on W H B 1 (imageSet W H w) (image-on W H w)
-
   pub part-clean : T (isClean W H (take p u))
   part-clean = clean-agree W H u (take p u) (λ j l. sym (agree j l)) (first-clean q on a)
 
-  pub grown-first : ys ≡ overwrite 0 (pack W H (withPoints W H m v (take p u))) (take p u) → First W H p (grown W H B m v w) w (ys ++ drop p u)
-  grown-first e =
+  -- the points with label v joined to it
+  pub joined-first : (m : List ℕ) (v : ℕ) (ys : List ℕ) → ys ≡ overwrite 0 (pack W H (withPoints W H m v (take p u))) (take p u)
+      → First W H p (λ z. eqb (labelAt W H m z) v || S z) w (ys ++ drop p u)
+  joined-first m v ys e =
       let X = withPoints W H m v (take p u) in
       let size : length (pack W H X) ≡ p = length-pack W H X ∙ sym q in
       let y : ys ≡ pack W H X = e ∙ overwrite-all (pack W H X) (take p u) (size ∙ sym taken) in

@@ -5,8 +5,10 @@ use native.Mathlib.Omega.{arith}
 use denote.Ref.{now}
 use lib.Seq.{length-take-le}
 use Rattle.morphology.specs.Element.{offsets}
-use Rattle.steps.proofs.StepLaws.{sheet-bytes}
-use Rattle.skeleton.proofs.GatherLaws.{grown-first, part-clean, taken}
+use Rattle.morphology.specs.Image.{imageSet}
+use Rattle.morphology.proofs.ImageLaws.{image-on}
+use Rattle.steps.proofs.StepLaws.{dilated-on, sheet-bytes}
+use Rattle.skeleton.proofs.GatherLaws.{joined-first, part-clean, taken}
 use Rattle.skeleton.proofs.grow.Statement.{statement}
 use Rattle.skeleton.proofs.grow.Tie as tie
 
@@ -26,12 +28,13 @@ add-points-requires c κs =
     let s = c .before .before .before .before .before .before .before in
     let a = s .args in
     let e = c .before .before .before .dilate-times .ensures in
-    let q = sheet-bytes (s .pre .0) in (
+    let q = sheet-bytes (s .pre .0) in
+    let on = dilated-on (a .w) (a .h) (offsets (a .element)) _ (imageSet (a .w) (a .h) (now (a .work))) (image-on (a .w) (a .h) (now (a .work))) in (
       s .pre .0 .frame,
-      s .pre .2,
+      omega (arith, s .pre .2),
       s .pre .3,
-      omega (arith, s .pre .0 .plane, taken (a .w) (a .h) (a .p) q (offsets (a .element)) (now (a .labels)) (a .v) (now (a .work)) _ (now (a .work)) (s .pre .1) (s .pre .4) e),
-      part-clean (a .w) (a .h) (a .p) q (offsets (a .element)) (now (a .labels)) (a .v) (now (a .work)) _ (now (a .work)) (s .pre .1) (s .pre .4) e,
+      omega (arith, s .pre .0 .plane, taken (a .w) (a .h) (a .p) q _ on (now (a .work)) _ (s .pre .1) e),
+      part-clean (a .w) (a .h) (a .p) q _ on (now (a .work)) _ (s .pre .1) e,
     )
 
 same-length : tie.Need-same-length
@@ -41,7 +44,8 @@ returns : tie.Need-returns
 returns c =
     let s = c .before .before .before .before .before .before .before .before .before .before in
     let a = s .args in
-    grown-first (a .w) (a .h) (a .p) (sheet-bytes (s .pre .0)) (offsets (a .element)) (now (a .labels)) (a .v) (now (a .work)) _ _ (s .pre .1) (s .pre .4) (c .before .before .before .before .before .before .dilate-times .ensures) (c .before .before .add-points .ensures)
+    let on = dilated-on (a .w) (a .h) (offsets (a .element)) _ (imageSet (a .w) (a .h) (now (a .work))) (image-on (a .w) (a .h) (now (a .work))) in
+    joined-first (a .w) (a .h) (a .p) (sheet-bytes (s .pre .0)) _ on (now (a .work)) _ (s .pre .1) (c .before .before .before .before .before .before .dilate-times .ensures) (now (a .labels)) (a .v) _ (c .before .before .add-points .ensures)
 
 pub grow-spec : {M : Type 1} → statement M
 grow-spec =
