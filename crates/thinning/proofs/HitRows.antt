@@ -37,21 +37,21 @@ asks-within t e Y y x f g h =
     ap (λ (b : Bool). cond (bit (e / 2 ^ (k * 5)) j) b (not t)) (h (x + (turned t j + 6)) (omega (arith, turned-lt t j lj))))))
 
 -- what the elements ask of the row in one buffer and of the row inverted in the other
-pub row-hits : (r h fg bg Y : ℕ) (image ink paper₀ paper u v w : List ℕ) → r ≤ 128 → length paper₀ ≡ 130 → NearRow image r h Y ink
-    → PlaneJoined false 0 r h u v (λ y x. elementAsks false fg (rowBit ink) Y y x)
-    → Pixelwise paper₀ paper (λ x b. not (rowBit ink x))
-    → PlaneJoined false 0 r h v w (λ y x. elementAsks false bg (rowBit paper) Y y x)
+pub row-hits : (r h fg bg Y : ℕ) (image row inverse₀ inverse u v w : List ℕ) → r ≤ 128 → length inverse₀ ≡ 130 → NearRow image r h Y row
+    → PlaneJoined false 0 r h u v (λ y x. elementAsks false fg (rowBit row) Y y x)
+    → Pixelwise inverse₀ inverse (λ x b. not (rowBit row x))
+    → PlaneJoined false 0 r h v w (λ y x. elementAsks false bg (rowBit inverse) Y y x)
     → PlaneJoined false 0 r h u w (λ y x. rowHits fg bg (nearBit image r h) Y y x)
-row-hits r h fg bg Y image ink paper₀ paper u v w hr len near a inverted b = record {
+row-hits r h fg bg Y image row inverse₀ inverse u v w hr len near a inverted b = record {
   size = b .size ∙ a .size;
   before = λ j l. b .before j l ∙ a .before j l;
   after = λ j l. b .after j l ∙ a .after j l;
   pixels = λ y x ly lx.
-      plane-more false 0 r h u v w (λ y x. elementAsks false fg (rowBit ink) Y y x) (λ y x. elementAsks false bg (rowBit paper) Y y x) a b .pixels y x ly lx
+      plane-more false 0 r h u v w (λ y x. elementAsks false fg (rowBit row) Y y x) (λ y x. elementAsks false bg (rowBit inverse) Y y x) a b .pixels y x ly lx
       ∙ ap (λ (c : Bool). rowBit u (8 * (0 + y * r) + x) && c)
       (ap₂ (λ (c d : Bool). c && d)
-      (asks-within false fg Y y x (rowBit ink) (λ X. nearBit image r h X Y) (λ X l. near .pixels X))
-      (asks-within false bg Y y x (rowBit paper) (λ X. not (nearBit image r h X Y)) (λ X l. inverted .pixels X (omega arith) ∙ ap not (near .pixels X))));
+      (asks-within false fg Y y x (rowBit row) (λ X. nearBit image r h X Y) (λ X l. near .pixels X))
+      (asks-within false bg Y y x (rowBit inverse) (λ X. not (nearBit image r h X Y)) (λ X l. inverted .pixels X (omega arith) ∙ ap not (near .pixels X))));
 }
 
 -- ---- all rows

@@ -80,7 +80,7 @@ fn widen(mask: u32) -> u32
     mask % 8 * 64 + mask / 8 % 8 * 2048 + mask / 64 * 65536
 }
 
-// Joins what the elements fg and bg ask of row yk - 2 of an image to each row of out that asks for it.
+// Joins what the elements fg and bg ask of row yk - 2 of an image to each row of out that asks for it. Outside the image is background: 0 in row, 1 in its inverse.
 fn hit_near(
     image: &[u8],
     out: &mut [u8],
@@ -89,17 +89,17 @@ fn hit_near(
     yk: usize,
     fg: u32,
     bg: u32,
-    ink: &mut [u8],
-    paper: &mut [u8],
+    row: &mut [u8],
+    inverse: &mut [u8],
 )
-    requires { ⌜ (h * r ≤ length (now image)) × (h * r ≤ length (now out)) × (r ≤ 128) × Margins r (now ink) × (length (now paper) ≡ 130) ⌝ }
+    requires { ⌜ (h * r ≤ length (now image)) × (h * r ≤ length (now out)) × (r ≤ 128) × Margins r (now row) × (length (now inverse) ≡ 130) ⌝ }
     ensures plane { λ _. ⌜ PlaneJoined false 0 r h (now (out .entry)) (now (out .exit)) (λ y x. rowHits fg bg (nearBit (now (image .entry)) r h) yk y x) ⌝ }
-    ensures margins { λ _. ⌜ Margins r (now (ink .exit)) ⌝ }
+    ensures margins { λ _. ⌜ Margins r (now (row .exit)) ⌝ }
 {
-    planes::load_near(image, r, h, yk, ink);
-    planes::scatter_row(false, out, 0, r, h, yk, fg, &ink[..]);
-    raster::invert(&ink[..], paper);
-    planes::scatter_row(false, out, 0, r, h, yk, bg, &paper[..]);
+    planes::load_near(image, r, h, yk, row);
+    raster::invert(&row[..], inverse);
+    planes::scatter_row(false, out, 0, r, h, yk, fg, &row[..]);
+    planes::scatter_row(false, out, 0, r, h, yk, bg, &inverse[..]);
 }
 
 // Joins what the elements fg and bg ask of an image to each row of out.
@@ -107,11 +107,11 @@ fn hit_rows(image: &[u8], out: &mut [u8], r: usize, h: usize, fg: u32, bg: u32)
     requires { ⌜ (h * r ≤ length (now image)) × (h * r ≤ length (now out)) × (r ≤ 128) × (h ≤ 1024) ⌝ }
     ensures { λ _. ⌜ PlaneJoined false 0 r h (now (out .entry)) (now (out .exit)) (λ y x. hits fg bg (nearBit (now (image .entry)) r h) x y) ⌝ }
 {
-    let mut ink = [0u8; 130];
-    let mut paper = [0u8; 130];
+    let mut row = [0u8; 130];
+    let mut inverse = [0u8; 130];
     let mut yk: usize = 0;
     while yk < h + 4 {
-        hit_near(image, out, r, h, yk, fg, bg, &mut ink, &mut paper);
+        hit_near(image, out, r, h, yk, fg, bg, &mut row, &mut inverse);
         yk = yk + 1;
     }
 }
@@ -173,7 +173,8 @@ pub fn hit_or_miss(w: u32, h: u32, fg: u32, bg: u32, image: &[u8], out: &mut [u8
     }
     let wide = w as usize;
     hit_plane(wide, h as usize, (wide + 7) / 8, fg, bg, image, out);
-    Hit::Area(raster::count_ones(&out[..]))
+    let area = raster::count_ones(&out[..]);
+    Hit::Area(area)
 }
 
 // A step of thinning: all points that a mask hits are removed at once. The hits stand in the first plane of work.

@@ -15,11 +15,11 @@ use Rattle.thinning.proofs.hit_rows.Statement.{statement}
 use Rattle.thinning.proofs.hit_rows.Tie as tie
 
 abbrev Inv-loop : tie.InvT-loop
-Inv-loop image out₀ r h fg bg ink₀ paper₀ yk₀ out ink paper yk =
-    (yk ≤ h + 4) × PlaneJoined false 0 r h out₀ out (λ y x. joined false yk (λ Y. rowHits fg bg (nearBit image r h) Y y x)) × Margins r ink × (length paper ≡ 130)
+Inv-loop image out₀ r h fg bg row₀ inverse₀ yk₀ out row inverse yk =
+    (yk ≤ h + 4) × PlaneJoined false 0 r h out₀ out (λ y x. joined false yk (λ Y. rowHits fg bg (nearBit image r h) Y y x)) × Margins r row × (length inverse ≡ 130)
 
 abbrev μ-loop : tie.MeasureT-loop
-μ-loop image out₀ r h fg bg ink₀ paper₀ yk₀ out ink paper yk = h + 4 - yk
+μ-loop image out₀ r h fg bg row₀ inverse₀ yk₀ out row inverse yk = h + 4 - yk
 
 loop-holds : tie.Need-loop-holds Inv-loop μ-loop
 loop-holds c =

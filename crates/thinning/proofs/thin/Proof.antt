@@ -46,7 +46,7 @@ clear-work-requires c κs =
     let a = c .before .before .before .before .before .before .before .before .before .before .before .before .before .before .args in
     let d = thin-ready (a .w) (a .h) (now (a .image)) (now (a .work)) (sym (c .before .before .before .before .before .before .before .before .before .thin-refusal .ensures) ∙ c .before .before .before .before .before .before .before .before .if1 .left) in
     let k = ready-sheet d in
-    (omega (arith, d .work, sheet-bytes k, c .before .before .before .before .before .thin-passes .ensures .size), sheet-small k)
+    (omega (arith, d .work, sheet-bytes k, c .before .before .before .before .before .thin-passes .ensures .size), omega (arith, sheet-small k))
 
 same-length-3 : tie.Need-same-length-3
 same-length-3 c = search needs

@@ -34,7 +34,7 @@ thin-step-requires c κs =
     let q = sheet-bytes (s .pre .0) in
     let g : Plane (a .w) (a .h) (now (a .image)) = record { size = s .pre .1 ∙ q; bytes = λ i. c .before .before .before .before .before .before .slice-known .given i .fits; clean = s .pre .3 } in
     let m = masks-plane (a .w) (a .h) (a .p) (l .k) (now (a .image)) (l .image) (now (a .work)) (l .work) g (l .inv .1) in
-    (s .pre .0, m .size ∙ sym q, omega (arith, l .inv .1 .size, s .pre .2), entry-mask (l .k) (c .before .before .before .loop-test .taken), m .clean)
+    (s .pre .0, m .size ∙ sym q, omega (arith, l .inv .1 .size, s .pre .2), entry-mask (l .k) (omega (arith, c .before .before .before .loop-test .taken)), m .clean)
 
 add-k : tie.Need-add-k Inv-loop μ-loop
 add-k c = omega arith
@@ -46,7 +46,7 @@ loop-again : tie.Need-loop-again Inv-loop μ-loop
 loop-again c =
     let a = c .before .before .before .before .before .before .before .before .before .before .before .before .args in
     let l = c .before .before .before .before .before .before .before .before .before .loop in
-    (omega arith, pass-turn (a .w) (a .h) (a .p) (l .k) _ (now (a .image)) (l .image) _ (now (a .work)) (l .work) _ (c .before .before .before .before .before .before .before .before .loop-test .taken) (entry-is (l .k)) (l .inv .1) (c .before .before .before .before .thin-step .ensures))
+    (omega arith, pass-turn (a .w) (a .h) (a .p) (l .k) _ (now (a .image)) (l .image) _ (now (a .work)) (l .work) _ (omega (arith, c .before .before .before .before .before .before .before .before .loop-test .taken)) (entry-is (l .k)) (l .inv .1) (c .before .before .before .before .thin-step .ensures))
 
 same-length : tie.Need-same-length Inv-loop μ-loop
 same-length c =
