@@ -17,6 +17,7 @@ pub mod CoverLaws
 pub mod ThinningLaws
 pub mod CountLaws
 pub mod PlaneLaws
+pub mod BandLaws
 pub mod HitLaws
 pub mod DecomposeLaws
 pub mod ReconstructLaws
