@@ -7,7 +7,6 @@ use native.Mathlib.Decide.{decLt}
 use native.Mathlib.Nat.{add-comm, add-mul, add-zero, div-lt-iff-lt-mul, le-div-iff-mul-le, mul-add-div-right, mul-add-mod-self-right, mul-comm, mul-le-mul-right, zero-add, zero-div}
 use native.Mathlib.Numerals.{add-one}
 use native.Mathlib.Omega.{arith}
-use lib.Arith.{digits-lt}
 use lib.Dec.{T, eqb, ltb→lt, lt→ltb}
 use lib.IntN.{+ℤ-idr, +ℤ-negℤ-cancel, _+ℤ_, _-ℤ_, negsuc, pos, ℤ}
 use lib.ListN.{getD}
@@ -100,9 +99,9 @@ module _ (W H a n : ℕ) (X : Point → Bool) (hR : 0 < stride W) (fit : a + n �
       ∙ ap (λ (g : ℕ → Bool). fromBits g (j % R * 8) 8) (fun-ext (λ x. row-outside a n X x (j / R) rows (λ l u. f (le-div-iff-mul-le hR .0 l) (div-lt-iff-lt-mul hR .0 u))))
       ∙ bits-none (j % R * 8) 8
 
-  -- bytes of 0 outside the band: no point there
-  pub rows-in : OnFrame W H X → ((j : ℕ) → j < a * stride W → getD (pack W H X) j 0 ≡ 0) → ((j : ℕ) → (a + n) * stride W ≤ j → j < H * stride W → getD (pack W H X) j 0 ≡ 0)
-      → InRows a n X
+  -- rows of 0 outside the band: no point there
+  pub rows-in : OnFrame W H X → ((y i : ℕ) → y < a → i < stride W → getD (pack W H X) (y * stride W + i) 0 ≡ 0)
+      → ((y i : ℕ) → a + n ≤ y → y < H → i < stride W → getD (pack W H X) (y * stride W + i) 0 ≡ 0) → InRows a n X
   unfolding pixel bitOf stride
   rows-in on above below z t = by (z .x) (z .y) (on .across z t) (on .down z t) t
     where
@@ -125,11 +124,9 @@ module _ (W H a n : ℕ) (X : Point → Bool) (hR : 0 < stride W) (fit : a + n �
           col = omega (arith, hx)
 
           go : Dec (y < a) → Dec (y < a + n) → (k : ℕ) × (k < n) × (pos y ≡ pos (a + k))
-          go (yes l) d = absurd (blank x y hx hy (above (y * stride W + x / 8) (digits-lt l col)) t)
+          go (yes l) d = absurd (blank x y hx hy (above y (x / 8) l col) t)
           go (no l) (yes u) = let e : y ≡ a + (y - a) = omega arith in (y - a, omega arith, ap pos e)
-          go (no l) (no u) =
-              let m : (a + n) * stride W ≤ y * stride W = mul-le-mul-right (stride W) (omega arith) in
-              absurd (blank x y hx hy (below (y * stride W + x / 8) (omega arith) (digits-lt hy col)) t)
+          go (no l) (no u) = absurd (blank x y hx hy (below y (x / 8) (omega arith) hy col) t)
       by (pos x) (negsuc y) tx ty t = absurd ty
       by (negsuc x) y tx ty t = absurd tx
 
