@@ -17,6 +17,7 @@ pub mod CoverLaws
 pub mod ThinningLaws
 pub mod CountLaws
 pub mod PlaneLaws
+pub mod BandLaws
 pub mod DecomposeLaws
 pub mod ReconstructLaws
 pub mod CoverCountLaws

@@ -72,7 +72,7 @@ pack-inj W H X Y ox oy e = sym (image-pack W H X ox) ∙ ap (imageSet W H) e ∙
 
 -- ---- planes of zeros
 
-bits-none : (i n : ℕ) → fromBits (λ c. false) i n ≡ 0
+pub bits-none : (i n : ℕ) → fromBits (λ c. false) i n ≡ 0
 unfolding fromBits
 bits-none i zero = refl
 bits-none i (suc n) = omega (arith, bits-none (suc i) n)

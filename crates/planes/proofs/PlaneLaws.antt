@@ -3,13 +3,12 @@ use mathlib.Core.Bool.{Bool, _&&_, false, true}
 use mathlib.Core.List.{List, List·Memᴰ, _++_}
 use mathlib.Core.Path.{_∙_, _≡_, ap, refl, subst, sym}
 use Prim.Native.Nat.{_*_, _+_, _-_, _<_, _≤_, ℕ}
-use native.Mathlib.Decide.{decLt}
 use native.Mathlib.Nat.{le-refl}
 use native.Mathlib.Omega.{arith}
 use borrow.Author.Tests.{lt-ltb}
 use lib.Dec.{T, lit<, ltb}
 use lib.IntN.{pos}
-use lib.ListN.{List·getD-append, List·getD-eq-default, drop, getD, length, length-drop, take}
+use lib.ListN.{List·getD-append, drop, getD, length, length-drop, take}
 use lib.Seq.{getD-drop, getD-take, length-take-le, take-all}
 use Rattle.morphology.specs.Element.{bit, offset, offsets}
 use Rattle.morphology.specs.Image.{clip, imageSet, isClean, pack, planeBytes, stride}
@@ -22,7 +21,7 @@ use Rattle.morphology.proofs.MorphologyLaws.{erode-out, open-sub}
 use Rattle.morphology.proofs.PlaneLaws.{on-sub}
 use Rattle.morphology.proofs.PointLaws.{unit}
 use Rattle.raster.specs.Rows.{overwrite, rowBit}
-use Rattle.raster.proofs.PartLaws.{cut-bit, drop-overwrite, length-overwrite, overwrite-is, overwrite-rest}
+use Rattle.raster.proofs.PartLaws.{cut-bit, part-bytes, drop-overwrite, length-overwrite, overwrite-is, overwrite-rest}
 use Rattle.raster.proofs.RowLaws.{row-in}
 use Rattle.planes.specs.Frames.{Frame, morphed}
 use Rattle.planes.specs.Neighbours.{PlaneIs, RowsTo, nearBit, neighbours}
@@ -52,15 +51,6 @@ erode-on W H e X o on =
     on-sub W H (erode (offsets e) X) X (λ z t. subst (λ (y : Point). T (X y)) (unit z) (erode-out (offsets e) X z t (origin-in e o))) on
 
 -- ---- the plane at p
-
-part-bytes : (a k : ℕ) (l : List ℕ) → ((i : ℕ) → getD l i 0 < 256) → a + k ≤ length l → (i : ℕ) → getD (take k (drop a l)) i 0 < 256
-part-bytes a k l h hl i = by (decLt i k)
-  where
-    by : Dec (i < k) → getD (take k (drop a l)) i 0 < 256
-    by (yes z) = subst (λ (n : ℕ). n < 256) (sym (getD-take k (drop a l) i 0 z ∙ getD-drop a l i 0)) (h (a + i))
-    by (no z) =
-        let c = length-take-le k (drop a l) (omega (arith, length-drop a l)) in
-        subst (λ (n : ℕ). n < 256) (sym (List·getD-eq-default (take k (drop a l)) 0 (omega arith))) (lit< tt)
 
 cut-swap : (m a b : Bool) → b ≡ true → (m && a) ≡ ((a && b) && m)
 cut-swap true true true e = refl

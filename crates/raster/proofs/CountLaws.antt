@@ -2,16 +2,16 @@
 use mathlib.Core.Bool.{Bool, _&&_, _||_, false, not, true}
 use mathlib.Core.List.{List, List·Memᴰ, [], _++_, _∷_}
 use mathlib.Core.Path.{_∙_, _≡_, ap, ap₂, refl, subst, sym}
-use Prim.Native.Nat.{_%_, _*_, _+_, _-_, _/_, _<_, _^_, _≤_, suc, zero, ℕ}
+use Prim.Native.Nat.{_%_, _*_, _+_, _-_, _/_, _<_, _^_, _≤_, suc, zero, zero-le, ℕ}
 use native.Mathlib.Decide.{decLt, ℕ-discrete}
-use native.Mathlib.Nat.{add-assoc, add-suc, add-zero, le-of-suc-le-suc, mod-lt, mod-one, not-suc-le-zero, suc-add, zero-add, zero-lt-suc}
+use native.Mathlib.Nat.{add-assoc, add-suc, add-zero, le-of-suc-le-suc, mod-lt, mod-one, not-suc-le-zero, suc-add, suc-mul, zero-add, zero-lt-suc}
 use native.Mathlib.Numerals.{add-one}
 use native.Mathlib.Omega.{arith}
 use borrow.Author.Tests.{eq-eqb, ne-eqb}
 use lib.Bits.{and-le-l, and-le-r, bitOr, bitXor, or-add-and, or-zero-l, xor-add-and, xor-self}
-use lib.Count.{ones}
+use lib.Count.{ones, ones-le}
 use lib.Dec.{T, eqb}
-use lib.ListN.{List·getD-append, drop, getD, length, length-append, length-drop, take}
+use lib.ListN.{List·getD-append, List·getD-eq-default, drop, getD, length, length-append, length-drop, replicate, take}
 use lib.Pow.{mod-pow-add, pow-pos}
 use lib.Seq.{ext-getD, getD-append-add, getD-drop, getD-take, length-take-le, take-add}
 use Rattle.morphology.specs.Element.{bit}
@@ -20,6 +20,7 @@ use Rattle.morphology.specs.Lists.{all, any, tabulate, upTo}
 use Rattle.morphology.proofs.CountLaws.{all-suc}
 use Rattle.morphology.proofs.ImageLaws.{mem-row}
 use Rattle.morphology.proofs.TestLaws.{T-ext, all-out}
+use Rattle.raster.specs.Rows.{Summed, sumOf}
 use Rattle.raster.proofs.ByteLaws.{below8}
 use Rattle.raster.proofs.LoopLaws.{Mapped}
 
@@ -65,6 +66,59 @@ ones-append (x ∷ a) b = ap (λ (n : ℕ). ones x + n) (ones-append a b) ∙ sy
 pub ones-part : (l : List ℕ) (i k j : ℕ) → k ≡ j → onesOf (take (i + j) l) ≡ onesOf (take i l) + onesOf (take k (drop i l))
 ones-part l i k j e =
     ap onesOf (take-add i j l) ∙ ones-append (take i l) (take j (drop i l)) ∙ ap (λ (n : ℕ). onesOf (take i l) + onesOf (take n (drop i l))) (sym e)
+
+-- ---- sums of bytes
+
+sum-suc : (l : List ℕ) (i : ℕ) → i < length l → sumOf (take (suc i) l) ≡ sumOf (take i l) + getD l i 0
+unfolding sumOf
+sum-suc [] i h = absurd (not-suc-le-zero h)
+sum-suc (b ∷ l) zero h = add-zero b ∙ sym (zero-add b)
+sum-suc (b ∷ l) (suc i) h = ap (λ (n : ℕ). b + n) (sum-suc l i (le-of-suc-le-suc h)) ∙ sym (add-assoc b (sumOf (take i l)) (getD l i 0))
+
+pub sum-more : (l : List ℕ) (i : ℕ) → i < length l → sumOf (take (i + 1) l) ≡ sumOf (take i l) + getD l i 0
+sum-more l i h = rw add-one (sum-suc l i h)
+
+-- a loop that adds the ones
+pub summed : (s old new : List ℕ) (n : ℕ) → length old ≤ n → Mapped (λ j. getD old j 0 + ones (getD s j 0)) old new n → Summed s old new
+summed s old new n h m = record { size = m .size; places = λ j l. m .done j (omega arith) }
+
+sum-places : (s old new : List ℕ) → length s ≡ length old → length new ≡ length old → ((j : ℕ) → j < length old → getD new j 0 ≡ getD old j 0 + ones (getD s j 0))
+    → sumOf new ≡ sumOf old + onesOf s
+unfolding sumOf onesOf
+sum-places [] [] [] e f g = refl
+sum-places [] [] (c ∷ new) e f g = absurd (omega arith)
+sum-places [] (b ∷ old) new e f g = absurd (omega arith)
+sum-places (a ∷ s) [] new e f g = absurd (omega arith)
+sum-places (a ∷ s) (b ∷ old) [] e f g = absurd (omega arith)
+sum-places (a ∷ s) (b ∷ old) (c ∷ new) e f g =
+    let h : c ≡ b + ones a = g 0 (omega arith) in
+    let q = sum-places s old new (omega arith) (omega arith) (λ j l. g (suc j) (omega arith)) in
+    omega arith
+
+pub sum-added : (s old new : List ℕ) → length s ≡ length old → Summed s old new → sumOf new ≡ sumOf old + onesOf s
+sum-added s old new e m = sum-places s old new e (m .size) (m .places)
+
+-- no sum rises by more than 8
+pub summed-le : (s old new : List ℕ) (i : ℕ) → ((j : ℕ) → getD s j 0 < 256) → length s ≡ length old → Summed s old new → ((j : ℕ) → getD old j 0 ≤ i / 8)
+    → (j : ℕ) → getD new j 0 ≤ (i + 64) / 8
+summed-le s old new i bytes e m h j = by (decLt j (length old))
+  where
+    by : Dec (j < length old) → getD new j 0 ≤ (i + 64) / 8
+    by (yes l) = let o = ones-le 8 (getD s j 0) (bytes j) in omega (arith, m .places j l, h j)
+    by (no l) = let z : getD new j 0 ≡ 0 = List·getD-eq-default new 0 (omega (arith, m .size)) in omega arith
+
+pub sums-none : (n k j : ℕ) → getD (replicate n 0) j 0 ≤ k
+sums-none n k j = subst (λ (v : ℕ). v ≤ k) (sym (go n j)) zero-le
+  where
+    go : (n j : ℕ) → _≡_ {A = ℕ} (getD (replicate n 0) j 0) 0
+    go zero j = refl
+    go (suc n) zero = refl
+    go (suc n) (suc j) = go n j
+
+pub sum-le : (l : List ℕ) (k : ℕ) → ((j : ℕ) → getD l j 0 ≤ k) → sumOf l ≤ length l * k
+unfolding sumOf
+sum-le [] k h = zero-le
+sum-le (b ∷ l) k h = let q = sum-le l k (λ j. h (suc j)) in let p : b ≤ k = h 0 in omega (arith, suc-mul (length l) k)
 
 -- ---- ink
 

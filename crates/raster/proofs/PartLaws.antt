@@ -8,8 +8,8 @@ use native.Mathlib.Nat.{add-assoc, not-suc-le-zero, zero-add}
 use borrow.Author.Count.{below-more}
 use native.Mathlib.Omega.{arith}
 use borrow.Author.Tests.{le-ltb, lt-ltb}
-use lib.Dec.{ltb}
-use lib.ListN.{List·getD-append, drop, getD, length, length-append, length-drop, length-set, set, take}
+use lib.Dec.{lit<, ltb}
+use lib.ListN.{List·getD-append, List·getD-eq-default, drop, getD, length, length-append, length-drop, length-set, set, take}
 use lib.Seq.{drop-at, drop-drop, drop-length, ext-getD, getD-append-add, getD-drop, getD-set-other, getD-set-same, getD-take, length-take-le, take-add, take-all, take-append-le, take-take}
 use Rattle.morphology.specs.Image.{bitOf}
 use Rattle.raster.specs.Rows.{Pixelwise, RowIs, RowJoined, join, overwrite, rowBit}
@@ -198,6 +198,16 @@ lift p k at r work ys g h l m =
     either : {a b : ℕ} {C : Type 0} → Dec (a < b) → (a < b → C) → (b ≤ a → C) → C
     either (yes z) f g = f z
     either (no z) f g = g (omega arith)
+
+-- a part of bytes
+pub part-bytes : (a k : ℕ) (l : List ℕ) → ((i : ℕ) → getD l i 0 < 256) → a + k ≤ length l → (i : ℕ) → getD (take k (drop a l)) i 0 < 256
+part-bytes a k l h hl i = by (decLt i k)
+  where
+    by : Dec (i < k) → getD (take k (drop a l)) i 0 < 256
+    by (yes z) = subst (λ (n : ℕ). n < 256) (sym (getD-take k (drop a l) i 0 z ∙ getD-drop a l i 0)) (h (a + i))
+    by (no z) =
+        let c = length-take-le k (drop a l) (omega (arith, length-drop a l)) in
+        subst (λ (n : ℕ). n < 256) (sym (List·getD-eq-default (take k (drop a l)) 0 (omega arith))) (lit< tt)
 
 -- ---- padding
 

@@ -1,18 +1,18 @@
 -- A decomposition turn by turn.
-use mathlib.Core.Bool.{Bool, _&&_, cond, false, not, true}
+use mathlib.Core.Bool.{Bool, _&&_, cond, not}
 use mathlib.Core.List.{List, [], _++_, _∷_}
 use mathlib.Core.Path.{_∙_, _≡_, ap, ap₂, refl, subst, sym}
 use Prim.Native.Nat.{_*_, _+_, _<_, _≤_, max, suc, zero, ℕ}
-use native.Mathlib.Nat.{suc-ne-zero, zero-add}
+use native.Mathlib.Nat.{le-refl, mul-le-mul-right, suc-ne-zero, zero-add}
 use native.Mathlib.Numerals.{add-one}
 use native.Mathlib.Omega.{arith}
 use lib.Dec.{T, eqb}
-use lib.ListN.{drop, getD, length, length-drop, replicate, take}
-use lib.Seq.{ext-getD, getD-drop, getD-take, length-take-le, take-at}
+use lib.ListN.{drop, getD, getD-replicate, length, length-drop, replicate, take}
+use lib.Seq.{ext-getD, getD-drop, getD-take, length-take-le}
 use Rattle.morphology.specs.Element.{isElement, offsets}
 use Rattle.morphology.specs.Image.{imageSet, isClean, pack, planeBytes}
 use Rattle.morphology.specs.Labels.{area, place, pointsOf, raster}
-use Rattle.morphology.specs.Lists.{any, count}
+use Rattle.morphology.specs.Lists.{count}
 use Rattle.morphology.specs.Morphology.{erode, opening, times}
 use Rattle.morphology.specs.Point.{Point}
 use Rattle.morphology.specs.Skeleton.{skeletonFunction, skeletonLabels, skeletonSubset}
@@ -26,7 +26,7 @@ use Rattle.morphology.specs.Refusals.{firstRefusal, notPlaces, notPlane, shortW
 use borrow.Author.Tests.{ltb-false}
 use Rattle.morphology.proofs.LabelLaws.{getD-place, length-raster}
 use Rattle.morphology.proofs.MorphologyLaws.{eroded-suc, eroded-zero}
-use Rattle.morphology.proofs.PlaneLaws.{area-le, empty-pack, pack-empty, some-point}
+use Rattle.morphology.proofs.PlaneLaws.{area-le, pack-empty, some-point}
 use Rattle.morphology.proofs.ElementLaws.{element}
 use Rattle.morphology.proofs.FrameLaws.{OnFrame}
 use Rattle.morphology.proofs.ImageLaws.{Agree, image-agree, image-on, image-pack, length-pack}
@@ -34,14 +34,14 @@ use Rattle.morphology.proofs.SkeletonLaws.{open-on}
 use Rattle.planes.specs.Frames.{Frame}
 use Rattle.planes.proofs.PlaneLaws.{agree-front, frame-bytes}
 use Rattle.raster.specs.Rows.{overwrite}
-use Rattle.raster.proofs.PartLaws.{PartIs, drop-overwrite, drop-past, length-overwrite, part-overwrite}
-use Rattle.steps.specs.Steps.{First, Ready}
+use Rattle.raster.proofs.RowLaws.{row-in}
+use Rattle.raster.proofs.PartLaws.{PartIs, drop-overwrite, length-overwrite, part-overwrite}
+use Rattle.steps.specs.Steps.{First, Ready, Sheet}
 use Rattle.labels.specs.Labelled.{Labelled, lacking}
-use Rattle.skeleton.specs.Turns.{Finished, Took, Turned, Turns}
-use Rattle.steps.proofs.StepLaws.{first-clean, first-image, first-zeros}
-
-drop-zero : (l : List ℕ) → l ≡ drop 0 l
-drop-zero l = refl
+use Rattle.skeleton.specs.Bands.{Banded, EndRow, FirstRow}
+use Rattle.skeleton.specs.Turns.{Finished, Stepped, Took, Turned, Turns}
+use Rattle.skeleton.proofs.BandLaws.{banded-next, banded-rows, eroded-sub}
+use Rattle.steps.proofs.StepLaws.{first-clean, first-image, sheet-bytes}
 
 -- ---- one turn
 
@@ -123,9 +123,16 @@ module _ (W H r p e : ℕ) (old : List ℕ) (f : Frame W H r) (hp : H * r ≤ p)
         points = subst (λ (S : Point → Bool). Labelled W H S c labels labels′ found) (ap₂ (λ (Y Z : Point → Bool). λ z. Y z && not (Z z)) a b) m;
       }
 
+-- the first b rows lie in the first plane
+pub sheet-rows : {w h r p : ℕ} → Sheet w h r p → (b : ℕ) (s : List ℕ) → b ≤ h → p ≤ length s → b * r ≤ length (take p s)
+sheet-rows {r = r} {p} sheet b s l g = omega (arith, length-take-le p s g, mul-le-mul-right r l, sheet .plane)
+
 -- no more points than places
-pub turned-le : {W H p : ℕ} {B : List Point} {v : ℕ} {w w′ l l′ : List ℕ} {found : ℕ} → Turned W H p B v w w′ l l′ found → found ≤ W * H
-turned-le {W} {H} {B = B} {w = w} d = let h = area-le W H (λ z. imageSet W H w z && not (opening B (imageSet W H w) z)) in omega (arith, d .points .points)
+pub stepped-le : {W H p : ℕ} {B : List Point} {v : ℕ} {w w′ l l′ : List ℕ} {found : ℕ} → Stepped W H p B v w w′ l l′ found → found ≤ W * H
+stepped-le {W} {H} {B = B} {w = w} d = let h = area-le W H (λ z. imageSet W H w z && not (opening B (imageSet W H w) z)) in omega (arith, d .points .points)
+
+pub stepped-as : {W H p q : ℕ} {B : List Point} {v : ℕ} {w w′ l l′ : List ℕ} {found : ℕ} → p ≡ q → Stepped W H p B v w w′ l l′ found → Stepped W H q B v w w′ l l′ found
+stepped-as {W} {H} {B = B} {v} {w} {w′} {l} {l′} {found} e d = subst (λ (k : ℕ). Stepped W H k B v w w′ l l′ found) e d
 
 -- ---- turns one after the other
 
@@ -145,117 +152,85 @@ turns-start W H p e w labels a q = record {
   before = λ k z. absurd (suc-ne-zero k (sym z));
 }
 
-module _ (W H p e : ℕ) (el : T (isElement e)) (q : p ≡ planeBytes W H) (X : Point → Bool) (on : OnFrame W H X) (n : ℕ) (w₀ w labels : List ℕ) (found : ℕ)
+module _ {W H r p : ℕ} (e : ℕ) (sheet : Sheet W H r p) (el : T (isElement e)) {X : Point → Bool} (on : OnFrame W H X) {n : ℕ} {w₀ w labels : List ℕ} {found : ℕ}
     (t : Turns W H p (offsets e) X n w₀ w labels found) where
+  abbrev B : List Point
+  B = offsets e
+
   abbrev Y : Point → Bool
-  Y = erode (times (offsets e) n) X
+  Y = erode (times B n) X
 
   Y-on : OnFrame W H Y
-  Y-on = eroded-on W H (offsets e) (element e el) X on n
+  Y-on = eroded-on W H B (element e el) X on n
 
   first-of : First W H p Y w w
   first-of = record { size = refl; first = t .eroded; rest = refl }
 
   pub turns-image : imageSet W H w ≡ Y
-  turns-image = first-image q Y-on first-of
+  turns-image = first-image (sheet-bytes sheet) Y-on first-of
 
   pub turns-clean : T (isClean W H w)
-  turns-clean = first-clean q Y-on first-of
+  turns-clean = first-clean (sheet-bytes sheet) Y-on first-of
 
-  -- a plane with a 1 has a point
-  pub turns-point : any (λ b. not (eqb b 0)) (take p w) ≡ true → (z : Point) × T (Y z)
-  turns-point h = some-point W H Y Y-on (λ f. some (take p w) (t .eroded ∙ pack-empty W H Y f) h)
+  -- a row with ink has a point
+  pub turns-point : {a b : ℕ} → Banded H r a b (take p w) → a < b → (z : Point) × T (Y z)
+  turns-point {a} {b} d h = some-point W H Y Y-on (λ f. d .ink h (λ i l. ap (λ (s : List ℕ). getD s (a * r + i) 0) (t .eroded ∙ pack-empty W H Y f) ∙ getD-replicate (planeBytes W H) (a * r + i) 0 0 (bound i l)))
     where
-      none-any : (k : ℕ) → any (λ b. not (eqb b 0)) (replicate k 0) ≡ false
-      none-any zero = refl
-      none-any (suc k) = none-any k
+      bound : (i : ℕ) → i < r → a * r + i < planeBytes W H
+      bound i l = omega (arith, row-in a H r (H * r) (omega (arith, d .down)) (le-refl (H * r)), frame-bytes (sheet .frame))
 
-      some : (l : List ℕ) → l ≡ replicate (planeBytes W H) 0 → any (λ b. not (eqb b 0)) l ≡ true → ⊥
-      some l z h = subst T (sym h ∙ ap (any (λ b. not (eqb b 0))) z ∙ none-any (planeBytes W H)) tt
-
-  pub turns-below : any (λ b. not (eqb b 0)) (take p w) ≡ true → n < max W H
-  turns-below h = turns-lt W H (offsets e) (element e el) X on n (λ f. let r = turns-point h in f (r .0) (r .1))
+  pub turns-below : {a b : ℕ} → Banded H r a b (take p w) → a < b → n < max W H
+  turns-below d h = turns-lt W H B (element e el) X on n (λ f. let z = turns-point d h in f (z .0) (z .1))
 
   pub turns-labels : length labels ≡ W * H
-  turns-labels = ap length (t .below) ∙ length-raster W H (skeletonFunction (offsets e) X n)
+  turns-labels = ap length (t .below) ∙ length-raster W H (skeletonFunction B X n)
 
   pub turns-found : found ≤ W * H
   turns-found = let h = count-le (λ v. not (eqb v 0)) labels in omega (arith, t .points, turns-labels)
 
-  pub turns-more : (w′ labels′ : List ℕ) (new : ℕ) → 3 * p ≤ length w → (z : Point) × T (Y z) → Turned W H p (offsets e) (n + 1) w w′ labels labels′ new
-      → Turns W H p (offsets e) X (n + 1) w₀ w′ labels′ (found + new)
-  unfolding skeletonSubset
-  turns-more w′ labels′ new h z d = record {
-    size = long ∙ t .size;
-    eroded =
-        ap (take p) (d .planes) ∙ take-first ∙ ap (λ (Z : Point → Bool). pack W H (erode B Z)) turns-image ∙ ap (pack W H) (sym (ap (λ (k : ℕ). erode (times B k) X) (add-one n) ∙ eroded-suc B n X));
-    rest = past ∙ t .rest;
-    below = labels-are;
-    points = ap₂ (λ (a b : ℕ). a + b) (t .points ∙ ap pointsOf (t .below)) (d .points .points ∙ ap (area W H) subset-is)
-        ∙ sym (points-turn W H B (element e el .centred) X n) ∙ ap (λ (k : ℕ). pointsOf (raster W H (skeletonFunction B X k))) (sym (add-one n)) ∙ ap pointsOf (sym labels-are);
-    before = λ k g. let r : n ≡ k = omega arith in subst (λ (i : ℕ). (z : Point) × T (erode (times B i) X z)) r z;
-  }
-    where
-      B : List Point
-      B = offsets e
+  module _ {w′ labels′ : List ℕ} {new : ℕ} (d : Stepped W H p B (n + 1) w w′ labels labels′ new) where
+    next-eroded : take p w′ ≡ pack W H (erode B Y)
+    next-eroded = d .eroded ∙ ap (λ (Z : Point → Bool). pack W H (erode B Z)) turns-image
 
-      E : List ℕ
-      E = pack W H (erode B (imageSet W H w))
+    pub turns-more : (z : Point) × T (Y z) → Turns W H p B X (n + 1) w₀ w′ labels′ (found + new)
+    unfolding skeletonSubset
+    turns-more z = record {
+      size = d .size ∙ t .size;
+      eroded = next-eroded ∙ ap (pack W H) (sym (ap (λ (k : ℕ). erode (times B k) X) (add-one n) ∙ eroded-suc B n X));
+      rest = d .rest ∙ t .rest;
+      below = labels-are;
+      points = ap₂ (λ (a b : ℕ). a + b) (t .points ∙ ap pointsOf (t .below)) (d .points .points ∙ ap (area W H) subset-is)
+          ∙ sym (points-turn W H B (element e el .centred) X n) ∙ ap (λ (k : ℕ). pointsOf (raster W H (skeletonFunction B X k))) (sym (add-one n)) ∙ ap pointsOf (sym labels-are);
+      before = λ k g. let r : n ≡ k = omega arith in subst (λ (i : ℕ). (z : Point) × T (erode (times B i) X z)) r z;
+    }
+      where
+        subset-is : (λ z. imageSet W H w z && not (opening B (imageSet W H w) z)) ≡ skeletonSubset B X n
+        subset-is = ap (λ (Z : Point → Bool). λ z. Z z && not (opening B Z z)) turns-image
 
-      O : List ℕ
-      O = pack W H (opening B (imageSet W H w))
+        labels-are : labels′ ≡ raster W H (skeletonFunction B X (n + 1))
+        labels-are =
+            ext-getD 0 labels′ (raster W H (skeletonFunction B X (n + 1))) (d .points .size ∙ sym (length-raster W H (skeletonFunction B X (n + 1)))) (λ i l.
+            let h = subst (λ (k : ℕ). i < k) (d .points .size) l in
+            let z = place W i in
+            d .points .places i h
+            ∙ ap₂ (λ (b : Bool) (c : ℕ). cond b (n + 1) c) (ap (λ (F : Point → Bool). F z) subset-is) (ap (λ (m : List ℕ). getD m i 0) (t .below) ∙ getD-place W H (skeletonFunction B X n) i h)
+            ∙ ap (λ (k : ℕ). cond (skeletonSubset B X n z) k (skeletonFunction B X n z)) (add-one n)
+            ∙ sym (function-turn B X n z) ∙ ap (λ (k : ℕ). skeletonFunction B X k z) (sym (add-one n)) ∙ sym (getD-place W H (skeletonFunction B X (n + 1)) i h))
 
-      sizeE : length E ≡ p
-      sizeE = length-pack W H (erode B (imageSet W H w)) ∙ sym q
+    -- the band only shrinks
+    pub turns-band : {a b a′ b′ : ℕ} → Banded H r a b (take p w) → FirstRow r a b (take p w′) a′ → EndRow r a′ b (take p w′) b′ → Banded H r a′ b′ (take p w′)
+    turns-band {a} {b} {a′} {b′} g =
+        banded-next W H r a b Y (take p w) (sheet .frame) Y-on (t .eroded) g (erode B Y) (take p w′) (eroded-sub e el Y) next-eroded a′ b′
 
-      sizeO : length O ≡ p
-      sizeO = length-pack W H (opening B (imageSet W H w)) ∙ sym q
-
-      u : List ℕ
-      u = overwrite p E w
-
-      v : List ℕ
-      v = overwrite (p + p) O u
-
-      lu : length u ≡ length w
-      lu = length-overwrite p p w E sizeE (omega arith)
-
-      lv : length v ≡ length w
-      lv = length-overwrite (p + p) p u O sizeO (omega (arith, lu)) ∙ lu
-
-      long : length w′ ≡ length w
-      long = ap length (d .planes) ∙ length-overwrite 0 p v E sizeE (omega (arith, lv)) ∙ lv
-
-      take-first : take p (overwrite 0 E v) ≡ E
-      take-first = ap (take p) (drop-zero (overwrite 0 E v) ∙ drop-overwrite 0 p v E sizeE (omega (arith, lv))) ∙ take-at E (drop (0 + p) v) p sizeE
-
-      past : drop (3 * p) w′ ≡ drop (3 * p) w
-      past =
-          ap (drop (3 * p)) (d .planes) ∙ drop-past (3 * p) 0 p v E sizeE (omega (arith, lv)) (omega arith)
-          ∙ drop-past (3 * p) (p + p) p u O sizeO (omega (arith, lu)) (omega arith) ∙ drop-past (3 * p) p p w E sizeE (omega arith) (omega arith)
-
-      subset-is : (λ z. imageSet W H w z && not (opening B (imageSet W H w) z)) ≡ skeletonSubset B X n
-      subset-is = ap (λ (Z : Point → Bool). λ z. Z z && not (opening B Z z)) turns-image
-
-      labels-are : labels′ ≡ raster W H (skeletonFunction B X (n + 1))
-      labels-are =
-          ext-getD 0 labels′ (raster W H (skeletonFunction B X (n + 1))) (d .points .size ∙ sym (length-raster W H (skeletonFunction B X (n + 1)))) (λ i l.
-          let h = subst (λ (k : ℕ). i < k) (d .points .size) l in
-          let z = place W i in
-          d .points .places i h
-          ∙ ap₂ (λ (b : Bool) (c : ℕ). cond b (n + 1) c) (ap (λ (F : Point → Bool). F z) subset-is) (ap (λ (m : List ℕ). getD m i 0) (t .below) ∙ getD-place W H (skeletonFunction B X n) i h)
-          ∙ ap (λ (k : ℕ). cond (skeletonSubset B X n z) k (skeletonFunction B X n z)) (add-one n)
-          ∙ sym (function-turn B X n z) ∙ ap (λ (k : ℕ). skeletonFunction B X k z) (sym (add-one n)) ∙ sym (getD-place W H (skeletonFunction B X (n + 1)) i h))
-
-  pub turns-over : p ≤ length w → any (λ b. not (eqb b 0)) (take p w) ≡ false → Took W H p (offsets e) X n w₀ w labels found
-  turns-over h z = record {
+  pub turns-over : {a b : ℕ} → Banded H r a b (take p w) → b ≤ a → Took W H p B X n w₀ w labels found
+  turns-over {a} {b} d h = record {
     size = t .size;
     rest = t .rest;
     finished = record {
       below = t .below;
       points = t .points;
       before = t .before;
-      gone = empty-pack W H Y Y-on (sym (t .eroded) ∙ first-zeros q h first-of z);
+      gone = λ z g. let y = banded-rows W H r a b Y (take p w) (sheet .frame) Y-on (t .eroded) d z g in omega (arith, y .1);
     };
   }
 

@@ -21,6 +21,13 @@ pub record Turned (W H p : ℕ) (B : List Point) (v : ℕ) (work work′ labels 
       work′ ≡ overwrite 0 E (overwrite (p + p) (pack W H (opening B X)) (overwrite p E work))
   pub points : let X = imageSet W H work in Labelled W H (λ z. X z && not (opening B X z)) v labels labels′ found
 
+-- a turn, as the turns after it need it: the plane eroded, from the fourth plane on as it was, the points labelled
+pub record Stepped (W H p : ℕ) (B : List Point) (v : ℕ) (work work′ labels labels′ : List ℕ) (found : ℕ) : Type 0 where
+  pub size : length work′ ≡ length work
+  pub eroded : take p work′ ≡ pack W H (erode B (imageSet W H work))
+  pub rest : drop (3 * p) work′ ≡ drop (3 * p) work
+  pub points : let X = imageSet W H work in Labelled W H (λ z. X z && not (opening B X z)) v labels labels′ found
+
 -- after n turns: the plane of X(n), the labels of the sizes below n, their number; every turn before had a point
 pub record Turns (W H p : ℕ) (B : List Point) (X : Point → Bool) (n : ℕ) (work₀ work labels : List ℕ) (found : ℕ) : Type 0 where
   pub size : length work ≡ length work₀

@@ -1,3 +1,5 @@
+mod bands;
+
 use planes::refusals;
 ghost use mathlib.Core.Path.{_≡_};
 ghost use mathlib.Core.List.{[], _∷_};
@@ -14,7 +16,8 @@ ghost use Rattle.morphology.specs.Skeleton.{reconstruction};
 ghost use Rattle.planes.specs.Frames.{Frame};
 ghost use Rattle.steps.specs.Steps.{First, Sheet, Wrote, Ready};
 ghost use Rattle.skeleton.specs.Gathered.{Kept, Tame, gathered, grown};
-ghost use Rattle.skeleton.specs.Turns.{Turned, Took, Finished};
+ghost use Rattle.skeleton.specs.Bands.{Banded};
+ghost use Rattle.skeleton.specs.Turns.{Turned, Stepped, Took, Finished};
 ghost use Rattle.skeleton.specs.Decomposed.{answerOf as decomposedAnswer};
 ghost use Rattle.skeleton.specs.Written.{answerOf};
 
@@ -160,7 +163,34 @@ fn turn(
     n
 }
 
-// Turns until the first plane is empty; turn n writes n + 1.
+// A turn on the rows from..to alone, outside of which the first plane is empty.
+fn turn_band(
+    w: usize,
+    h: usize,
+    r: usize,
+    from: usize,
+    to: usize,
+    element: u32,
+    v: u8,
+    labels: &mut [u8],
+    work: &mut [u8],
+) -> u32
+    requires { ⌜ Frame w h r × (3 * (h * r) ≤ length (now work)) × (length (now labels) ≡ w * h) × T (isElement element) × T (isClean w h (now work)) × Banded h r from to (take (h * r) (now work)) ⌝ }
+    ensures { λ n. ⌜ Stepped w h (h * r) (offsets element) v (now (work .entry)) (now (work .exit)) (now (labels .entry)) (now (labels .exit)) n ⌝ }
+{
+    turn(
+        w,
+        to - from,
+        r,
+        h * r,
+        element,
+        v,
+        &mut labels[from * w..to * w],
+        &mut work[from * r..],
+    )
+}
+
+// Turns until the first plane is empty, each on the rows that still hold ink; turn n writes n + 1.
 fn take_turns(
     w: usize,
     h: usize,
@@ -175,10 +205,14 @@ fn take_turns(
 {
     let mut points: u32 = 0;
     let mut n: u32 = 0;
-    while raster::has_ink(&work[..p]) {
-        let new = turn(w, h, r, p, element, (n + 1) as u8, labels, work);
+    let mut from = bands::first_row(&work[..p], r, 0, h);
+    let mut to = bands::end_row(&work[..p], r, from, h);
+    while from < to {
+        let new = turn_band(w, h, r, from, to, element, (n + 1) as u8, labels, work);
         points = points + new;
         n = n + 1;
+        from = bands::first_row(&work[..p], r, from, to);
+        to = bands::end_row(&work[..p], r, from, to);
     }
     Found { points, turns: n }
 }

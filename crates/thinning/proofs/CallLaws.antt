@@ -18,6 +18,9 @@ use Rattle.planes.proofs.SideLaws.{sides-frame, sides-of}
 use Rattle.steps.specs.Steps.{Ready}
 use Rattle.steps.proofs.StepLaws.{sheet-small}
 
+pub or-miss : (a b : Bool) {t : Bool} → a ≡ false → b ≡ t → (a || b) ≡ t
+or-miss a b p q = ap (λ (x : Bool). x || b) p ∙ q
+
 -- row 3 of two lengths
 pub lengths-two : (a b : Bool) → a ≡ false → b ≡ false → row3 (a ∷ b ∷ []) .1 ≡ false
 lengths-two a b p q = or-in-false a (b || false) p (or-in-false b false q refl)

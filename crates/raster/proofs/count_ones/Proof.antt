@@ -11,7 +11,7 @@ use Rattle.raster.proofs.count_ones.Statement.{statement}
 use Rattle.raster.proofs.count_ones.Tie as tie
 
 abbrev Inv-loop : tie.InvT-loop
-Inv-loop s n₀ i₀ n i = (i ≤ length s) × (n ≡ onesOf (take i s)) × (n ≤ 8 * i)
+Inv-loop s n₀ i₀ n i = (i ≤ length s) × (n ≡ onesOf (take i s)) × (n ≤ 9 * i)
 
 abbrev μ-loop : tie.MeasureT-loop
 μ-loop s n₀ i₀ n i = length s - i
@@ -23,29 +23,26 @@ loop-holds c = (omega arith, refl, omega arith)
 add-loop : tie.Need-add-loop Inv-loop μ-loop
 add-loop c = omega arith
 
-add-count-part : tie.Need-add-count-part Inv-loop μ-loop
-add-count-part c = omega arith
+add-count-block : tie.Need-add-count-block Inv-loop μ-loop
+add-count-block c = omega arith
 
-sub-count-part : tie.Need-sub-count-part Inv-loop μ-loop
-sub-count-part c = omega arith
+sub-count-block : tie.Need-sub-count-block Inv-loop μ-loop
+sub-count-block c = omega arith
 
-part-count-part-start : tie.Need-part-count-part-start Inv-loop μ-loop
-part-count-part-start c = omega arith
+part-count-block-start : tie.Need-part-count-block-start Inv-loop μ-loop
+part-count-block-start c = omega arith
 
-part-count-part-end : tie.Need-part-count-part-end Inv-loop μ-loop
-part-count-part-end c = omega arith
+part-count-block-end : tie.Need-part-count-block-end Inv-loop μ-loop
+part-count-block-end c = omega arith
 
-count-part-requires : tie.Need-count-part-requires Inv-loop μ-loop
-count-part-requires c κs =
+count-block-requires : tie.Need-count-block-requires Inv-loop μ-loop
+count-block-requires c κs =
     let l = c .before .before .loop in
     let s = now (c .before .before .before .before .args .s) in
-    omega (arith, length-take-le (l .i + 16 - l .i) (drop (l .i) s) (omega (arith, length-drop (l .i) s)))
-
-cast-n : tie.Need-cast-n Inv-loop μ-loop
-cast-n c = omega (arith, c .count-part .ensures .1)
+    omega (arith, length-take-le (l .i + 1984 - l .i) (drop (l .i) s) (omega (arith, length-drop (l .i) s)))
 
 add-n : tie.Need-add-n Inv-loop μ-loop
-add-n c = omega (arith, c .count-part .ensures .1)
+add-n c = omega (arith, c .count-block .ensures .1)
 
 add-i : tie.Need-add-i Inv-loop μ-loop
 add-i c = omega arith
@@ -58,37 +55,34 @@ loop-again c =
     let l = c .before .before .before .loop in
     let s = now (c .before .before .before .before .before .args .s) in (
       omega arith,
-      ap₂ _+_ (l .inv .1) (c .count-part .ensures .0) ∙ sym (ones-part s (l .i) (l .i + 16 - l .i) 16 (omega arith)),
-      omega (arith, c .count-part .ensures .1),
+      ap₂ _+_ (l .inv .1) (c .count-block .ensures .0) ∙ sym (ones-part s (l .i) (l .i + 1984 - l .i) 1984 (omega arith)),
+      omega (arith, c .count-block .ensures .1),
     )
 
-sub-count-part-2 : tie.Need-sub-count-part-2 Inv-loop μ-loop
-sub-count-part-2 c = omega arith
+sub-count-block-2 : tie.Need-sub-count-block-2 Inv-loop μ-loop
+sub-count-block-2 c = omega arith
 
-part-count-part-start-2 : tie.Need-part-count-part-start-2 Inv-loop μ-loop
-part-count-part-start-2 c = omega arith
+part-count-block-start-2 : tie.Need-part-count-block-start-2 Inv-loop μ-loop
+part-count-block-start-2 c = omega arith
 
-part-count-part-end-2 : tie.Need-part-count-part-end-2 Inv-loop μ-loop
-part-count-part-end-2 c = omega arith
+part-count-block-end-2 : tie.Need-part-count-block-end-2 Inv-loop μ-loop
+part-count-block-end-2 c = omega arith
 
-count-part-requires-2 : tie.Need-count-part-requires-2 Inv-loop μ-loop
-count-part-requires-2 c κs =
+count-block-requires-2 : tie.Need-count-block-requires-2 Inv-loop μ-loop
+count-block-requires-2 c κs =
     let l = c .before .before .loop in
     let s = now (c .before .before .before .before .args .s) in
     omega (arith, length-take-le (length s - l .i) (drop (l .i) s) (omega (arith, length-drop (l .i) s)))
 
-cast-result : tie.Need-cast-result Inv-loop μ-loop
-cast-result c = omega (arith, c .count-part2 .ensures .1)
-
 add-result : tie.Need-add-result Inv-loop μ-loop
-add-result c = omega (arith, c .count-part2 .ensures .1)
+add-result c = omega (arith, c .count-block2 .ensures .1)
 
 returns : tie.Need-returns Inv-loop μ-loop
 returns c =
     let l = c .before .before .before .loop in
     let s = now (c .before .before .before .before .before .args .s) in
     let e : l .i + (length s - l .i) ≡ length s = omega arith in
-    ap₂ _+_ (l .inv .1) (c .count-part2 .ensures .0) ∙ sym (ones-part s (l .i) (length s - l .i) (length s - l .i) refl)
+    ap₂ _+_ (l .inv .1) (c .count-block2 .ensures .0) ∙ sym (ones-part s (l .i) (length s - l .i) (length s - l .i) refl)
     ∙ ap (λ (n : ℕ). onesOf (take n s)) e ∙ ap onesOf (take-length s)
 
 pub count-ones-spec : {M : Type 1} → statement M
@@ -99,20 +93,18 @@ count-ones-spec =
     μ-loop
     loop-holds
     add-loop
-    add-count-part
-    sub-count-part
-    part-count-part-start
-    part-count-part-end
-    count-part-requires
-    cast-n
+    add-count-block
+    sub-count-block
+    part-count-block-start
+    part-count-block-end
+    count-block-requires
     add-n
     add-i
     loop-less
     loop-again
-    sub-count-part-2
-    part-count-part-start-2
-    part-count-part-end-2
-    count-part-requires-2
-    cast-result
+    sub-count-block-2
+    part-count-block-start-2
+    part-count-block-end-2
+    count-block-requires-2
     add-result
     returns)
