@@ -166,19 +166,8 @@ module _ (W H r a b : ℕ) (Y : Point → Bool) (s : List ℕ) (f : Frame W H r)
     banded-next a′ b′ = banded-found H r a b a′ b′ s′ (d .down) (λ y l. kept y (omega (arith, d .order, d .down)) (λ u v. omega arith)) (λ y l u. kept y u (λ v w. omega arith))
 
 -- the band in rows of k elements
-pub band-span : {h r a b : ℕ} {s : List ℕ} → Banded h r a b s → (k : ℕ) → (a * k ≤ b * k) × (b * k ≤ h * k)
-band-span d k = (mul-le-mul-right k (d .order), mul-le-mul-right k (d .down))
-
-pub band-height : {h r a b : ℕ} {s : List ℕ} → Banded h r a b s → (k : ℕ) → (b - a) * k ≤ h * k
-band-height d k = mul-le-mul-right k (omega (arith, d .down))
-
-pub band-labels : (W : ℕ) {h r a b : ℕ} {s : List ℕ} (labels : List ℕ) → Banded h r a b s → length labels ≡ W * h
-    → length (take (b * W - a * W) (drop (a * W) labels)) ≡ W * (b - a)
-band-labels W {h} {r} {a} {b} labels d len =
-    let z : b ≡ a + (b - a) = omega (arith, d .order) in
-    let e = ap (λ (i : ℕ). i * W) z ∙ add-mul a (b - a) W in
-    let g = band-span d W in
-    length-take-le (b * W - a * W) (drop (a * W) labels) (omega (arith, length-drop (a * W) labels, mul-comm W h)) ∙ omega (arith, mul-comm W (b - a))
+pub band-span : {h r a b : ℕ} {s : List ℕ} → Banded h r a b s → (k : ℕ) → a * k + (b - a) * k ≤ h * k
+band-span {h} {r} {a} {b} d k = rows-fit a (b - a) h k (band-fit d)
 
 -- ---- a turn on the band
 
@@ -200,7 +189,7 @@ module _ (W H r a b e : ℕ) (work : List ℕ) (f : Frame W H r) (h : 3 * (H * r
   fit = band-fit d
 
   rows-bytes : a * r + n * r ≤ H * r
-  rows-bytes = rows-fit a n H r fit
+  rows-bytes = band-span d r
 
   plane : take p work ≡ pack W H X
   plane = first-start W H p work (frame-bytes f) (omega arith) bytes clean .first
@@ -247,7 +236,7 @@ module _ (W H r a b e : ℕ) (work : List ℕ) (f : Frame W H r) (h : 3 * (H * r
     image : imageSet W n u ≡ moved a X
     image = image-agree W n u (pack W n (moved a X)) agree ∙ image-pack W n (moved a X) on
 
-    pub band-stepped : (v found m : ℕ) (ys labels ls : List ℕ) → m ≡ b * W - a * W → length labels ≡ W * H
+    pub band-stepped : (v found m : ℕ) (ys labels ls : List ℕ) → m ≡ (b - a) * W → length labels ≡ W * H
         → Turned W (b - a) (H * r) (offsets e) v (take k (drop (a * r) work)) ys (take m (drop (a * W) labels)) ls found
         → Stepped W H (H * r) (offsets e) v work (take (a * r) work ++ (ys ++ drop k (drop (a * r) work))) labels (take (a * W) labels ++ (ls ++ drop m (drop (a * W) labels))) found
     unfolding u moved
@@ -258,15 +247,12 @@ module _ (W H r a b e : ℕ) (work : List ℕ) (f : Frame W H r) (h : 3 * (H * r
           getD-take p new j 0 hj ∙ by j hj (decLt j (a * r)) (decLt j (a * r + n * r)));
       rest = ext-getD 0 (drop (3 * p) new) (drop (3 * p) work) (length-drop (3 * p) new ∙ ap (λ (i : ℕ). i - 3 * p) (whole .size) ∙ sym (length-drop (3 * p) work)) (λ j l.
           getD-drop (3 * p) new j 0 ∙ past (3 * p + j) (omega arith) (omega (arith, length-drop (3 * p) new, whole .size)) ∙ sym (getD-drop (3 * p) work j 0));
-      points = labelled-back W H a n m v (λ z. X z && not (opening B X z)) labels ls found (f .wide) fit (omega (arith, lanes)) len (λ z g. rows z (and-l (X z) (not (opening B X z)) g))
+      points = labelled-back W H a n m v (λ z. X z && not (opening B X z)) labels ls found (f .wide) fit em len (λ z g. rows z (and-l (X z) (not (opening B X z)) g))
           (subst (λ (S : Point → Bool). Labelled W n S v (take m (drop (a * W) labels)) ls found) subset (t .points));
     }
       where
         new : List ℕ
         new = take (a * r) work ++ (ys ++ drop k (drop (a * r) work))
-
-        lanes : b * W ≡ a * W + n * W
-        lanes = let z : b ≡ a + n = omega (arith, d .order) in ap (λ (i : ℕ). i * W) z ∙ add-mul a n W
 
         subset : (λ z. imageSet W n u z && not (opening B (imageSet W n u) z)) ≡ moved a (λ z. X z && not (opening B X z))
         subset = ap (λ (Y : Point → Bool). λ z. Y z && not (opening B Y z)) image ∙ ap (λ (O : Point → Bool). λ z. moved a X z && not (O z)) (open-moved B a X)

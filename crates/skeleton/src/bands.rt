@@ -23,13 +23,14 @@ pub fn end_row(s: &[u8], r: usize, from: usize, to: usize) -> usize
     requires { ⌜ (from ≤ to) × (to * r ≤ length (now s)) ⌝ }
     ensures { λ y. ⌜ EndRow r from to (now (s .entry)) y ⌝ }
 {
-    let mut y = to;
-    while from < y {
-        let at = (y - 1) * r;
+    let mut end = to;
+    while from < end {
+        let last = end - 1;
+        let at = last * r;
         if raster::has_ink(&s[at..at + r]) {
-            return y;
+            return end;
         }
-        y = y - 1;
+        end = last;
     }
     from
 }

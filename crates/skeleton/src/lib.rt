@@ -178,14 +178,16 @@ fn turn_band(
     requires { ⌜ Frame w h r × (3 * (h * r) ≤ length (now work)) × (length (now labels) ≡ w * h) × T (isElement element) × T (isClean w h (now work)) × Banded h r from to (take (h * r) (now work)) ⌝ }
     ensures { λ n. ⌜ Stepped w h (h * r) (offsets element) v (now (work .entry)) (now (work .exit)) (now (labels .entry)) (now (labels .exit)) n ⌝ }
 {
+    let rows = to - from;
+    let at = from * w;
     turn(
         w,
-        to - from,
+        rows,
         r,
         h * r,
         element,
         v,
-        &mut labels[from * w..to * w],
+        &mut labels[at..at + rows * w],
         &mut work[from * r..],
     )
 }

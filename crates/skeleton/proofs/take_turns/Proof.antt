@@ -1,6 +1,6 @@
 -- `skeleton::take_turns` meets its contract.
 use mathlib.Core.Path.{_∙_, _≡_, refl, subst, sym}
-use Prim.Native.Nat.{_-_, max, zero-le, ℕ}
+use Prim.Native.Nat.{_-_, max, ℕ}
 use native.Mathlib.Nat.{le-refl, mul-le-mul-right}
 use native.Mathlib.Omega.{arith}
 use denote.Ref.{now}
@@ -31,7 +31,7 @@ slice-aggregate-first-row : tie.Need-slice-aggregate-first-row Inv-loop μ-loop
 slice-aggregate-first-row c = sym (length-take-le (c .before .before .before .args .p) (now (c .before .before .before .args .work)) (omega (arith, c .before .before .before .pre .3)))
 
 first-row-requires : tie.Need-first-row-requires Inv-loop μ-loop
-first-row-requires c κs = let s = c .before .before .before in (zero-le, sheet-rows (s .pre .0) (s .args .h) (now (s .args .work)) (le-refl (s .args .h)) (omega (arith, s .pre .3)))
+first-row-requires c κs = let s = c .before .before .before in (omega arith, sheet-rows (s .pre .0) (s .args .h) (now (s .args .work)) (le-refl (s .args .h)) (omega (arith, s .pre .3)))
 
 slice-reshare-prefix-end-row : tie.Need-slice-reshare-prefix-end-row Inv-loop μ-loop
 slice-reshare-prefix-end-row c = omega (arith, c .before .before .before .before .pre .3)
@@ -108,7 +108,7 @@ first-row-requires-2 : tie.Need-first-row-requires-2 Inv-loop μ-loop
 first-row-requires-2 c κs =
     let s = c .before .before .before .before .before .before .before .before .before .before .before .before .before .before .before .before in
     let l = c .before .before .before .before .before .before .before .before .before .loop in
-    (l .inv .2 .order, sheet-rows (s .pre .0) (l .to) _ (l .inv .2 .down) (omega (arith, c .before .before .before .before .before .turn-band .ensures .size, c .before .before .before .before .before .before .before .before .before .loop .inv .0 .size, c .before .before .before .before .before .before .before .before .before .before .before .before .before .before .before .before .pre .3)))
+    (omega (arith, l .inv .2 .order), sheet-rows (s .pre .0) (l .to) _ (l .inv .2 .down) (omega (arith, c .before .before .before .before .before .turn-band .ensures .size, c .before .before .before .before .before .before .before .before .before .loop .inv .0 .size, c .before .before .before .before .before .before .before .before .before .before .before .before .before .before .before .before .pre .3)))
 
 slice-reshare-prefix-end-row-2 : tie.Need-slice-reshare-prefix-end-row-2 Inv-loop μ-loop
 slice-reshare-prefix-end-row-2 c = omega (arith, c .before .before .before .before .before .before .turn-band .ensures .size, c .before .before .before .before .before .before .before .before .before .before .loop .inv .0 .size, c .before .before .before .before .before .before .before .before .before .before .before .before .before .before .before .before .before .pre .3)

@@ -11,27 +11,27 @@ use Rattle.skeleton.proofs.bands.end_row.Statement.{statement}
 use Rattle.skeleton.proofs.bands.end_row.Tie as tie
 
 abbrev Inv-loop : tie.InvT-loop
-Inv-loop s r from to y₀ y = (from ≤ y) × (y ≤ to) × ((k : ℕ) → y ≤ k → k < to → BlankRow r s k)
+Inv-loop s r from to end₀ end = (from ≤ end) × (end ≤ to) × ((k : ℕ) → end ≤ k → k < to → BlankRow r s k)
 
 abbrev μ-loop : tie.MeasureT-loop
-μ-loop s r from to y₀ y = y
+μ-loop s r from to end₀ end = end
 
 loop-holds : tie.Need-loop-holds Inv-loop μ-loop
 loop-holds c = (c .before .pre .0, omega arith, λ k l u. absurd (omega arith))
 
-sub-at : tie.Need-sub-at Inv-loop μ-loop
-sub-at c = search needs
+sub-last : tie.Need-sub-last Inv-loop μ-loop
+sub-last c = search needs
 
 mul-at : tie.Need-mul-at Inv-loop μ-loop
 mul-at c =
     let s = c .before .before .before in
-    let h = row-in (c .before .loop .y - 1) (s .args .to) (s .args .r) _ (omega arith) (s .pre .1) in
+    let h = row-in (c .before .loop .end - 1) (s .args .to) (s .args .r) _ (omega arith) (s .pre .1) in
     search needs
 
 add-has-ink : tie.Need-add-has-ink Inv-loop μ-loop
 add-has-ink c =
     let s = c .before .before .before in
-    let h = row-in (c .before .loop .y - 1) (s .args .to) (s .args .r) _ (omega arith) (s .pre .1) in
+    let h = row-in (c .before .loop .end - 1) (s .args .to) (s .args .r) _ (omega arith) (s .pre .1) in
     search needs
 
 sub-has-ink : tie.Need-sub-has-ink Inv-loop μ-loop
@@ -43,7 +43,7 @@ part-has-ink-start c = search needs
 part-has-ink-end : tie.Need-part-has-ink-end Inv-loop μ-loop
 part-has-ink-end c =
     let s = c .before .before .before in
-    let h = row-in (c .before .loop .y - 1) (s .args .to) (s .args .r) _ (omega arith) (s .pre .1) in
+    let h = row-in (c .before .loop .end - 1) (s .args .to) (s .args .r) _ (omega arith) (s .pre .1) in
     search needs
 
 has-ink-requires : tie.Need-has-ink-requires Inv-loop μ-loop
@@ -54,17 +54,14 @@ returns c =
     let s = c .before .before .before .before .before .before in
     let a = s .args in
     let l = c .before .before .before .before .loop in
-    let y = l .y - 1 in
+    let y = l .end - 1 in
     let h = row-in y (a .to) (a .r) _ (omega arith) (s .pre .1) in
     record {
-      from = l .inv .0;
-      to = l .inv .1;
+      from = omega arith;
+      to = omega (arith, s .pre .0);
       blank = l .inv .2;
       ink = λ g. row-ink (a .r) y (y * a .r + a .r - y * a .r) (now (a .s)) (omega arith) h (sym (c .before .has-ink .ensures) ∙ c .if1 .taken);
     }
-
-sub-y : tie.Need-sub-y Inv-loop μ-loop
-sub-y c = search needs
 
 loop-less : tie.Need-loop-less Inv-loop μ-loop
 loop-less c = search needs
@@ -74,11 +71,11 @@ loop-again c =
     let s = c .before .before .before .before .before .before in
     let a = s .args in
     let l = c .before .before .before .before .loop in
-    let y = l .y - 1 in
+    let y = l .end - 1 in
     let h = row-in y (a .to) (a .r) _ (omega arith) (s .pre .1) in (
       omega arith,
       omega arith,
-      blank-less (a .r) (l .y) (a .to) (now (a .s)) (omega arith) (l .inv .2) (row-blank (a .r) y (y * a .r + a .r - y * a .r) (now (a .s)) (omega arith) h (sym (c .before .has-ink .ensures) ∙ c .if1 .left)),
+      blank-less (a .r) (l .end) (a .to) (now (a .s)) (omega arith) (l .inv .2) (row-blank (a .r) y (y * a .r + a .r - y * a .r) (now (a .s)) (omega arith) h (sym (c .before .has-ink .ensures) ∙ c .if1 .left)),
     )
 
 returns-2 : tie.Need-returns-2 Inv-loop μ-loop
@@ -93,7 +90,7 @@ end-row-spec =
     Inv-loop
     μ-loop
     loop-holds
-    sub-at
+    sub-last
     mul-at
     add-has-ink
     sub-has-ink
@@ -101,7 +98,6 @@ end-row-spec =
     part-has-ink-end
     has-ink-requires
     returns
-    sub-y
     loop-less
     loop-again
     returns-2)

@@ -53,8 +53,8 @@ returns c =
     let l = c .before .before .before .before .loop in
     let h = row-in (l .y) (a .to) (a .r) _ (c .before .before .before .loop-test .taken) (s .pre .1) in
     record {
-      from = l .inv .0;
-      to = l .inv .1;
+      from = omega arith;
+      to = omega (arith, s .pre .0);
       blank = l .inv .2;
       ink = λ g. row-ink (a .r) (l .y) (l .y * a .r + a .r - l .y * a .r) (now (a .s)) (omega arith) h (sym (c .before .has-ink .ensures) ∙ c .if1 .taken);
     }
