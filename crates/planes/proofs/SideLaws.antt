@@ -60,11 +60,11 @@ sides-frame {w} {h} s = let a = s .across in let b = s .down in record { wide = 
 
 -- ---- row 3, of any sides
 
-pub plane-small : (w h : ℕ) → w < 2 ^ 32 → h < 2 ^ 32 → h * ((w + 7) / 8) < 2 ^ 62
-plane-small w h p q = let b : h ≤ 2 ^ 32 = omega arith in omega (arith, mul-le-mul-right ((w + 7) / 8) b)
+pub product-lt : (a b : ℕ) → a < 2 ^ 32 → b < 2 ^ 32 → a * b < 2 ^ 64
+product-lt a b p q = let l : a ≤ 2 ^ 32 - 1 = omega arith in omega (arith, mul-le-mul-right b l)
 
-pub places-small : (w h : ℕ) → w < 2 ^ 32 → h < 2 ^ 32 → w * h < 2 ^ 64
-places-small w h p q = let a : w ≤ 2 ^ 32 - 1 = omega arith in omega (arith, mul-le-mul-right h a)
+pub plane-lt : (w h : ℕ) → w < 2 ^ 32 → h < 2 ^ 32 → h * ((w + 7) / 8) < 2 ^ 62
+plane-lt w h p q = let l : h ≤ 2 ^ 32 = omega arith in omega (arith, mul-le-mul-right ((w + 7) / 8) l)
 
 -- ---- row 2
 

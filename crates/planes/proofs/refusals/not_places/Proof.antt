@@ -1,12 +1,12 @@
 -- `planes::refusals::not_places` meets its contract.
 use native.Mathlib.Omega.{arith}
 use borrow.Author.Needs.{needs}
-use Rattle.planes.proofs.SideLaws.{places-small}
+use Rattle.planes.proofs.SideLaws.{product-lt}
 use Rattle.planes.proofs.refusals.not_places.Statement.{statement}
 use Rattle.planes.proofs.refusals.not_places.Tie as tie
 
 mul-result : tie.Need-mul-result
-mul-result c = let a = c .args in omega (arith, places-small (a .w) (a .h) (omega arith) (omega arith))
+mul-result c = record { fits = product-lt _ _ (omega arith) (omega arith) }
 
 returns : tie.Need-returns
 returns c = search needs

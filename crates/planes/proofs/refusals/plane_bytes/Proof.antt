@@ -3,7 +3,7 @@ use mathlib.Core.Path.{refl}
 use native.Mathlib.Omega.{arith}
 use borrow.Author.Needs.{needs}
 use Rattle.morphology.specs.Image.{stride}
-use Rattle.planes.proofs.SideLaws.{plane-small}
+use Rattle.planes.proofs.SideLaws.{product-lt}
 use Rattle.planes.proofs.refusals.plane_bytes.Statement.{statement}
 use Rattle.planes.proofs.refusals.plane_bytes.Tie as tie
 
@@ -11,7 +11,7 @@ add-result : tie.Need-add-result
 add-result c = search needs
 
 mul-result : tie.Need-mul-result
-mul-result c = let a = c .args in omega (arith, plane-small (a .w) (a .h) (omega arith) (omega arith))
+mul-result c = record { fits = product-lt _ _ (omega arith) (omega arith) }
 
 returns : tie.Need-returns
 unfolding stride

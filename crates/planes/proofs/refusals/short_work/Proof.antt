@@ -7,7 +7,7 @@ use denote.Ref.{now}
 use lib.Dec.{ltb}
 use lib.ListN.{length}
 use Rattle.morphology.specs.Image.{stride}
-use Rattle.planes.proofs.SideLaws.{plane-small}
+use Rattle.planes.proofs.SideLaws.{plane-lt}
 use Rattle.planes.proofs.refusals.short_work.Statement.{statement}
 use Rattle.planes.proofs.refusals.short_work.Tie as tie
 
@@ -16,7 +16,7 @@ plane-bytes-requires c κs = search needs
 
 mul-result : tie.Need-mul-result
 unfolding stride
-mul-result c = let s = c .before .before in omega (arith, c .plane-bytes .ensures, plane-small (s .args .w) (s .args .h) (omega arith) (omega arith))
+mul-result c = let s = c .before .before in omega (arith, c .plane-bytes .ensures, plane-lt (s .args .w) (s .args .h) (omega arith) (omega arith))
 
 returns : tie.Need-returns
 returns c = ap (λ (p : ℕ). ltb (length (now (c .before .before .args .work))) (3 * p)) (c .plane-bytes .ensures)
