@@ -111,6 +111,6 @@ fn minimise([input, name]: [&str; 2], element: u32, image: &[u8]) {
 #[rustfmt::skip]
 fn thin(input: &str, image: &[u8]) {
     compare(["thin", input, "", ""], &lent(image), true,
-        |l| Ok(baseline::thin(SIDE, SIDE, &mut l.image, &mut l.work)?.removed),
+        |l| Ok(baseline::thin(SIDE, SIDE, &mut l.image, &mut l.work)?.passes),
         |l| proved::thin(SIDE, SIDE, &mut l.image, &mut l.work));
 }

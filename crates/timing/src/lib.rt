@@ -1,10 +1,12 @@
 // The public operations with C's calling convention, for bench/.
 use skeleton::Decomposed;
 use skeleton::Written;
+use thinning::Thinned;
 ghost use mathlib.Core.Path.{_≡_};
-ghost use Rattle.morphology.specs.Operations.{decomposed, eroded, opened, reconstructed};
+ghost use Rattle.morphology.specs.Operations.{decomposed, eroded, opened, reconstructed, thin};
 ghost use Rattle.skeleton.specs.Decomposed.{answerOf as decomposedAnswer};
 ghost use Rattle.skeleton.specs.Written.{answerOf};
+ghost use Rattle.thinning.specs.Thinned.{answerOf as thinnedAnswer};
 ghost use Rattle.timing.specs.Values.{firstValue};
 
 fn value(a: Written) -> u32
@@ -23,6 +25,19 @@ fn points(a: Decomposed) -> u32
         Decomposed::Refused(n) => n as u32,
         Decomposed::Blank => 0,
         Decomposed::Skeleton { points, largest } => points,
+    }
+}
+
+fn passes(a: Thinned) -> u32
+    ensures { λ r. ⌜ r ≡ firstValue (thinnedAnswer a) ⌝ }
+{
+    match a {
+        Thinned::Refused(n) => n as u32,
+        Thinned::Done {
+            passes,
+            removed,
+            left,
+        } => passes,
     }
 }
 
@@ -83,4 +98,11 @@ pub extern "C" fn time_reconstruct(
     ensures { λ r. ⌜ r ≡ firstValue (reconstructed w h element cut (now (labels .entry)) (now (image .entry)) (now (work .entry)) .answer) ⌝ }
 {
     value(skeleton::reconstruct(w, h, element, cut, labels, image, work))
+}
+
+#[no_mangle]
+pub extern "C" fn time_thin(w: u32, h: u32, image: &mut [u8], work: &mut [u8]) -> u32
+    ensures { λ r. ⌜ r ≡ firstValue (thin w h (now (image .entry)) (now (work .entry)) .answer) ⌝ }
+{
+    passes(thinning::thin(w, h, image, work))
 }
