@@ -11,7 +11,8 @@ use borrow.Author.Tests.{eq-eqb, ne-eqb}
 use lib.Dec.{eqb, ltb}
 use lib.ListN.{drop, getD, length, length-replicate, replicate, take}
 use lib.Pow.{shr-shr}
-use Rattle.raster.specs.Rows.{RowIs, join, rowBit}
+use Rattle.morphology.specs.Element.{bit}
+use Rattle.raster.specs.Rows.{join, rowBit, RowIs, RowJoined}
 use Rattle.raster.proofs.PartLaws.{PartIs, part-back, part-bit}
 use Rattle.raster.proofs.RowLaws.{row-in, rowBit-same}
 use Rattle.planes.specs.Neighbours.{Begun, NearRow, PlaneIs, PlaneJoined, RowsTo, elementAsks, fiveOf, joined, nearBit, neighbours, rowAsks, startByte, turned}
@@ -58,6 +59,32 @@ joined-point t (suc n) q g l = by (decLt q n) (λ m. joined-point t n q g m)
     by (yes m) less =
         ap (join t (joined t n f)) (ap (λ (b : Bool). cond b (g n) (not t)) (ne-eqb q n (λ z. omega arith))) ∙ join-unit t (joined t n f)
         ∙ less m
+
+-- a row of the element that has the middle bit alone
+pub five-middle : (t : Bool) (five : ℕ) (row : ℕ → Bool) (x : ℕ) → five % 32 ≡ 4 → row (x + 8) ≡ fiveOf t five row x
+unfolding fiveOf
+five-middle t five row x e =
+    ap (λ (k : ℕ). row (x + (k + 6))) (middle t) ∙ sym (joined-point t 5 2 (λ j. row (x + (turned t j + 6))) (omega arith))
+    ∙ joined-same t 5 (λ j. cond (eqb 2 j) (row (x + (turned t j + 6))) (not t)) (λ j. cond (bit five j) (row (x + (turned t j + 6))) (not t))
+    (λ j l. ap (λ (b : Bool). cond b (row (x + (turned t j + 6))) (not t)) (alone j l))
+  where
+    middle : (t : Bool) → 2 ≡ turned t 2
+    middle true = refl
+    middle false = refl
+
+    digit : (j d : ℕ) → five / 2 ^ j % 2 ≡ d → eqb d 1 ≡ bit five j
+    digit j d q = sym (ap (λ (n : ℕ). eqb n 1) q)
+
+    alone : (j : ℕ) → j < 5 → eqb 2 j ≡ bit five j
+    alone zero l = digit 0 0 (omega arith)
+    alone (suc zero) l = digit 1 0 (omega arith)
+    alone (suc (suc zero)) l = digit 2 1 (omega arith)
+    alone (suc (suc (suc zero))) l = digit 3 0 (omega arith)
+    alone (suc (suc (suc (suc zero)))) l = digit 4 0 (omega arith)
+    alone (suc (suc (suc (suc (suc j))))) l = absurd (omega arith)
+
+pub row-middle : (t : Bool) (five : ℕ) (buf a b : List ℕ) → five % 32 ≡ 4 → RowJoined t a b (λ x. rowBit buf (x + 8)) → RowJoined t a b (fiveOf t five (rowBit buf))
+row-middle t five buf a b e m = record { size = m .size; pixels = λ x l. m .pixels x l ∙ ap (join t (rowBit a x)) (five-middle t five (rowBit buf) x e) }
 
 -- what all rows of the source are asked is what the element asks
 pub all-asked : (t : Bool) (e h x y n : ℕ) (near : ℕ → ℕ → Bool) → y < h → n ≡ h + 4

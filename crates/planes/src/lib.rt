@@ -57,8 +57,8 @@ fn join_if(dilating: bool, buf: &[u8], digit: u32, s: u32, dst: &mut [u8])
     }
 }
 
-// Joins one row of the element, the lowest five bits, of the pixels in buf to dst.
-fn join_five(dilating: bool, buf: &[u8], five: u32, dst: &mut [u8])
+// Joins one row of the element, the lowest five bits, of the pixels in buf to dst, bit by bit.
+fn join_bits(dilating: bool, buf: &[u8], five: u32, dst: &mut [u8])
     requires { ⌜ length (now dst) + 2 ≤ length (now buf) ⌝ }
     ensures { λ _. ⌜ RowJoined dilating (now (dst .entry)) (now (dst .exit)) (fiveOf dilating five (rowBit (now (buf .entry)))) ⌝ }
 {
@@ -70,6 +70,18 @@ fn join_five(dilating: bool, buf: &[u8], five: u32, dst: &mut [u8])
         rest = rest / 2;
         j = j + 1;
     }
+}
+
+// The same; where it has the middle bit alone, at once.
+fn join_five(dilating: bool, buf: &[u8], five: u32, dst: &mut [u8])
+    requires { ⌜ length (now dst) + 2 ≤ length (now buf) ⌝ }
+    ensures { λ _. ⌜ RowJoined dilating (now (dst .entry)) (now (dst .exit)) (fiveOf dilating five (rowBit (now (buf .entry)))) ⌝ }
+{
+    if five % 32 == 4 {
+        raster::join_row(dilating, buf, 8, dst);
+        return;
+    }
+    join_bits(dilating, buf, five, dst);
 }
 
 // Joins row k of the element, the lowest five bits of five, of the row yk - 2 in buf to the row of the plane at p that asks for it.

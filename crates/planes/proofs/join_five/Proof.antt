@@ -1,73 +1,31 @@
 -- `planes::join_five` meets its contract.
-use mathlib.Core.Path.{_∙_, _≡_, ap}
-use Prim.Native.Nat.{_+_, _-_, _/_, _^_, _≤_, ℕ}
-use native.Mathlib.Omega.{arith}
+use borrow.Author.Needs.{needs}
 use denote.Ref.{now}
-use lib.Pow.{shr-shr}
-use Rattle.planes.specs.Neighbours.{joined}
-use Rattle.planes.proofs.NeighbourLaws.{bitAsks, five-done, five-more, five-none, turned-lt}
-use Rattle.raster.specs.Rows.{RowJoined, rowBit}
+use Rattle.planes.proofs.ScatterLaws.{row-middle}
 use Rattle.planes.proofs.join_five.Statement.{statement}
 use Rattle.planes.proofs.join_five.Tie as tie
 
-abbrev Inv-loop : tie.InvT-loop
-Inv-loop dilating buf five dst₀ rest₀ j₀ dst rest j = (j ≤ 5) × (rest ≡ five / 2 ^ j) × RowJoined dilating dst₀ dst (λ x. joined dilating j (bitAsks dilating five (rowBit buf) x))
+join-row-requires : tie.Need-join-row-requires
+join-row-requires c κs = search needs
 
-abbrev μ-loop : tie.MeasureT-loop
-μ-loop dilating buf five dst₀ rest₀ j₀ dst rest j = 5 - j
+same-length : tie.Need-same-length
+same-length c = search needs
 
-loop-holds : tie.Need-loop-holds Inv-loop μ-loop
-loop-holds c = let a = c .before .before .args in (omega arith, omega arith, five-none (a .dilating) (a .five) (now (a .buf)) (now (a .dst)))
-
-turn-requires : tie.Need-turn-requires Inv-loop μ-loop
-turn-requires c κs = omega arith
-
-cast-s : tie.Need-cast-s Inv-loop μ-loop
-cast-s c = omega (arith, c .turn .ensures, turned-lt (c .before .before .before .before .before .args .dilating) (c .before .before .loop .j) (c .before .loop-test .taken))
-
-add-s : tie.Need-add-s Inv-loop μ-loop
-add-s c = omega (arith, c .turn .ensures, turned-lt (c .before .before .before .before .before .args .dilating) (c .before .before .loop .j) (c .before .loop-test .taken))
-
-join-if-requires : tie.Need-join-if-requires Inv-loop μ-loop
-join-if-requires c κs = (omega (arith, c .before .turn .ensures, turned-lt (c .before .before .before .before .before .before .args .dilating) (c .before .before .before .loop .j) (c .before .before .loop-test .taken)), omega (arith, c .before .before .before .loop .inv .2 .size, c .before .before .before .before .before .before .pre))
-
-add-j : tie.Need-add-j Inv-loop μ-loop
-add-j c = omega arith
-
-loop-less : tie.Need-loop-less Inv-loop μ-loop
-loop-less c = omega arith
-
-loop-again : tie.Need-loop-again Inv-loop μ-loop
-loop-again c =
-    let l = c .before .before .before .before .before .before .loop in
-    let a = c .before .before .before .before .before .before .before .before .before .args in (
-      omega arith,
-      ap (λ (n : ℕ). n / 2) (l .inv .1) ∙ shr-shr (a .five) (l .j) 1,
-      five-more (a .dilating) (a .five) (l .rest) (l .j) _ (now (a .buf)) (now (a .dst)) (l .dst) _ (l .inv .1) (ap (λ (n : ℕ). n + 6) (c .before .before .before .before .turn .ensures)) (l .inv .2) (c .before .before .join-if .ensures),
-    )
-
-same-length : tie.Need-same-length Inv-loop μ-loop
-same-length c = c .before .loop .inv .2 .size
-
-returns : tie.Need-returns Inv-loop μ-loop
+returns : tie.Need-returns
 returns c =
-    let a = c .before .before .before .before .args in
-    let l = c .before .loop in
-    five-done (a .dilating) (a .five) (now (a .buf)) (now (a .dst)) (l .dst) (l .j) (omega arith) (l .inv .2)
+    let a = c .before .before .before .before .before .before .before .args in
+    row-middle (a .dilating) (a .five) (now (a .buf)) (now (a .dst)) _ (c .before .before .before .before .if1 .taken) (c .before .before .join-row .ensures)
+
+join-bits-requires : tie.Need-join-bits-requires
+join-bits-requires c κs = search needs
+
+same-length-2 : tie.Need-same-length-2
+same-length-2 c = search needs
+
+returns-2 : tie.Need-returns-2
+returns-2 c = search needs
 
 pub join-five-spec : {M : Type 1} → statement M
 join-five-spec =
     tie.close
-    (tie.spec
-    Inv-loop
-    μ-loop
-    loop-holds
-    turn-requires
-    cast-s
-    add-s
-    join-if-requires
-    add-j
-    loop-less
-    loop-again
-    same-length
-    returns)
+    (tie.spec join-row-requires same-length returns join-bits-requires same-length-2 returns-2)
