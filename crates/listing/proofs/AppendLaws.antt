@@ -24,6 +24,9 @@ appended-as {s} {t} {at} {next} {out} {out′} e = subst (λ (u : List ℕ). App
 pub room-as : {s t : List ℕ} {at : ℕ} {out : List ℕ} → s ≡ t → Room s at out → Room t at out
 room-as {s} {t} {at} {out} e = subst (λ (u : List ℕ). Room u at out) e
 
+pub room-less : {s t : List ℕ} {at : ℕ} {out : List ℕ} → length s ≤ length t → Room t at out → Room s at out
+room-less h r = record { fits = omega arith }
+
 -- ---- a text t of two pieces s and u
 
 module _ (s u : List ℕ) {t : List ℕ} (e : t ≡ s ++ u) where

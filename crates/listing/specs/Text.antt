@@ -2,7 +2,7 @@
 use mathlib.Core.Bool.{cond}
 use mathlib.Core.List.{List, [], _++_, _∷_, map}
 use Prim.Native.Nat.{_%_, _+_, _/_, suc, zero, ℕ}
-use lib.Dec.{ltb}
+use lib.Dec.{eqb, ltb}
 use lib.ListN.{drop, take}
 
 abbrev pub lineFeed : ℕ
@@ -29,6 +29,10 @@ after (w ∷ ws) = space ∷ (w ++ after ws)
 unfoldable pub spaced : List (List ℕ) → List ℕ
 spaced [] = []
 spaced (w ∷ ws) = w ++ after ws
+
+-- what word i adds to the words before it
+abbrev pub wordAt : ℕ → List ℕ → List ℕ
+wordAt i w = cond (eqb i 0) w (space ∷ w)
 
 -- words apart by one space, ended by a line feed
 unfoldable pub line : List (List ℕ) → List ℕ
