@@ -4,12 +4,13 @@ use mathlib.Core.List.{List, [], _++_, _∷_, append-assoc, append-nil, map}
 use mathlib.Core.Path.{_∙_, _≡_, ap, ap₂, refl, sym}
 use Prim.Native.Nat.{_%_, _*_, _+_, _/_, _<_, _≤_, suc, zero, ℕ}
 use native.Mathlib.Decide.{decLt}
-use native.Mathlib.Nat.{not-suc-le-zero, suc-mul, zero-mul}
+use native.Mathlib.Nat.{mul-comm, not-suc-le-zero, suc-mul, zero-mul}
 use native.Mathlib.Numerals.{add-one}
 use native.Mathlib.Omega.{arith}
 use borrow.Author.Tests.{eq-eqb, le-ltb, lt-ltb, ne-eqb}
 use lib.ListN.{List·getD-map, drop, getD, length, length-append, length-map, take, take-append-drop}
 use lib.Seq.{drop-drop, length-take-le, take-all, take-suc}
+use Rattle.raster.proofs.RowLaws.{row-in}
 use Rattle.listing.specs.Appended.{Appended}
 use Rattle.listing.specs.Text.{after, decimal, digits, line, lineFeed, mapText, space, spaced, wordAt}
 
@@ -135,3 +136,6 @@ map-le W (suc y) zero m h = absurd (not-suc-le-zero h)
 map-le W (suc y) (suc H) m h =
     let t = line (words (take W m)) in
     omega (arith, map-le W y H (drop W m) (omega arith), length-append t (mapText W y (drop W m)), length-append t (mapText W H (drop W m)))
+
+pub map-row : (W y H : ℕ) (m : List ℕ) → y < H → length m ≡ W * H → y * W + W ≤ length m
+map-row W y H m l e = row-in y H W (length m) l (omega (arith, mul-comm W H))

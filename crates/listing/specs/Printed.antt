@@ -25,15 +25,17 @@ refusalText n = line (refusedWord ∷ decimal n ∷ [])
 unfoldable pub skeletonText : ℕ → ℕ → ℕ → List ℕ → List ℕ → List ℕ
 skeletonText W H points largest m = line (decimal W ∷ decimal H ∷ decimal points ∷ largest ∷ []) ++ mapText W H m
 
--- a refusal answers its number alone; an empty image has no largest size
-unfoldable pub answerText : ℕ → ℕ → ℕ → List ℕ → List ℕ → List ℕ
-answerText W H refusal [] m = refusalText refusal
-answerText W H refusal (points ∷ []) m = skeletonText W H points noSize m
-answerText W H refusal (points ∷ largest ∷ values) m = skeletonText W H points (decimal largest) m
+-- what a decomposition answers: of a refusal the number alone; an empty image has no largest size
+unfoldable pub answerText : ℕ → ℕ → Answer → List ℕ → List ℕ
+answerText W H a m = text (a .values)
+  where
+    text : List ℕ → List ℕ
+    text [] = refusalText (a .refusal)
+    text (points ∷ []) = skeletonText W H points noSize m
+    text (points ∷ largest ∷ rest) = skeletonText W H points (decimal largest) m
 
--- a decomposition's outcome
 abbrev pub outcomeText : ℕ → ℕ → Outcome → List ℕ
-outcomeText W H o = answerText W H (o .answer .refusal) (o .answer .values) (output o)
+outcomeText W H o = answerText W H (o .answer) (output o)
 
 -- the number at i, of four bytes, lowest first
 abbrev pub numberAt : List ℕ → ℕ → ℕ

@@ -1,6 +1,7 @@
 // Text appended to a buffer: each function writes from `at` on and answers where the text ends.
 ghost use mathlib.Core.List.{[], _∷_, map};
-ghost use Prim.Native.Nat.{_+_, _*_, _≤_};
+ghost use mathlib.Core.Path.{_≡_};
+ghost use Prim.Native.Nat.{_*_};
 ghost use lib.ListN.{length};
 ghost use Rattle.listing.specs.Appended.{Appended, Room};
 ghost use Rattle.listing.specs.Text.{decimal, line, mapText, wordAt};
@@ -73,7 +74,7 @@ pub fn put_row(row: &[u8], at: usize, out: &mut [u8]) -> usize
 
 // A map of h rows of w labels.
 pub fn put_map(w: usize, h: usize, labels: &[u8], at: usize, out: &mut [u8]) -> usize
-    requires { ⌜ (h * w ≤ length (now labels)) × Room (mapText w h (now labels)) at (now out) ⌝ }
+    requires { ⌜ (length (now labels) ≡ w * h) × Room (mapText w h (now labels)) at (now out) ⌝ }
     ensures { λ next. ⌜ Appended (mapText w h (now (labels .entry))) at next (now (out .entry)) (now (out .exit)) ⌝ }
 {
     let mut next = at;

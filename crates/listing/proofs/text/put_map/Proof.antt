@@ -3,12 +3,10 @@ use mathlib.Core.Path.{_≡_, subst}
 use Prim.Native.Nat.{_*_, _+_, _-_, _≤_, ℕ}
 use native.Mathlib.Omega.{arith}
 use denote.Ref.{now}
-use lib.ListN.{length}
-use Rattle.raster.proofs.RowLaws.{row-in}
 use Rattle.listing.specs.Appended.{Appended}
 use Rattle.listing.specs.Text.{mapText}
 use Rattle.listing.proofs.AppendLaws.{appended-none, appended-then, room-less, room-next}
-use Rattle.listing.proofs.TextLaws.{map-le, map-more, map-none}
+use Rattle.listing.proofs.TextLaws.{map-le, map-more, map-none, map-row}
 use Rattle.listing.proofs.text.put_map.Statement.{statement}
 use Rattle.listing.proofs.text.put_map.Tie as tie
 
@@ -22,22 +20,22 @@ loop-holds : tie.Need-loop-holds Inv-loop μ-loop
 loop-holds c = let a = c .before .before .args in (omega arith, map-none (a .w) (now (a .labels)) (appended-none (a .at) (now (a .out))))
 
 mul-put-row : tie.Need-mul-put-row Inv-loop μ-loop
-mul-put-row c = omega (arith, row-in (c .before .loop .y) (c .before .before .before .before .args .h) (c .before .before .before .before .args .w) (length (now (c .before .before .before .before .args .labels))) (c .loop-test .taken) (c .before .before .before .before .pre .0))
+mul-put-row c = omega (arith, map-row (c .before .before .before .before .args .w) (c .before .loop .y) (c .before .before .before .before .args .h) (now (c .before .before .before .before .args .labels)) (c .loop-test .taken) (c .before .before .before .before .pre .0))
 
 mul-put-row-2 : tie.Need-mul-put-row-2 Inv-loop μ-loop
-mul-put-row-2 c = omega (arith, row-in (c .before .loop .y) (c .before .before .before .before .args .h) (c .before .before .before .before .args .w) (length (now (c .before .before .before .before .args .labels))) (c .loop-test .taken) (c .before .before .before .before .pre .0))
+mul-put-row-2 c = omega (arith, map-row (c .before .before .before .before .args .w) (c .before .loop .y) (c .before .before .before .before .args .h) (now (c .before .before .before .before .args .labels)) (c .loop-test .taken) (c .before .before .before .before .pre .0))
 
 add-put-row : tie.Need-add-put-row Inv-loop μ-loop
-add-put-row c = omega (arith, row-in (c .before .loop .y) (c .before .before .before .before .args .h) (c .before .before .before .before .args .w) (length (now (c .before .before .before .before .args .labels))) (c .loop-test .taken) (c .before .before .before .before .pre .0))
+add-put-row c = omega (arith, map-row (c .before .before .before .before .args .w) (c .before .loop .y) (c .before .before .before .before .args .h) (now (c .before .before .before .before .args .labels)) (c .loop-test .taken) (c .before .before .before .before .pre .0))
 
 sub-put-row : tie.Need-sub-put-row Inv-loop μ-loop
 sub-put-row c = omega arith
 
 part-put-row-start : tie.Need-part-put-row-start Inv-loop μ-loop
-part-put-row-start c = omega (arith, row-in (c .before .loop .y) (c .before .before .before .before .args .h) (c .before .before .before .before .args .w) (length (now (c .before .before .before .before .args .labels))) (c .loop-test .taken) (c .before .before .before .before .pre .0))
+part-put-row-start c = omega (arith, map-row (c .before .before .before .before .args .w) (c .before .loop .y) (c .before .before .before .before .args .h) (now (c .before .before .before .before .args .labels)) (c .loop-test .taken) (c .before .before .before .before .pre .0))
 
 part-put-row-end : tie.Need-part-put-row-end Inv-loop μ-loop
-part-put-row-end c = omega (arith, row-in (c .before .loop .y) (c .before .before .before .before .args .h) (c .before .before .before .before .args .w) (length (now (c .before .before .before .before .args .labels))) (c .loop-test .taken) (c .before .before .before .before .pre .0))
+part-put-row-end c = omega (arith, map-row (c .before .before .before .before .args .w) (c .before .loop .y) (c .before .before .before .before .args .h) (now (c .before .before .before .before .args .labels)) (c .loop-test .taken) (c .before .before .before .before .pre .0))
 
 put-row-requires : tie.Need-put-row-requires Inv-loop μ-loop
 put-row-requires c κs =
