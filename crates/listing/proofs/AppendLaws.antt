@@ -2,9 +2,10 @@
 use mathlib.Core.List.{List, [], _++_, _∷_, append-assoc, append-nil}
 use mathlib.Core.Path.{_∙_, _≡_, ap, refl, subst, sym}
 use Prim.Native.Nat.{_+_, _<_, _≤_, ℕ}
+use native.Mathlib.Nat.{min-le-right}
 use native.Mathlib.Numerals.{add-one}
 use native.Mathlib.Omega.{arith}
-use lib.ListN.{getD, length, length-append, length-set, set, take}
+use lib.ListN.{getD, length, length-append, length-set, length-take, set, take}
 use lib.Seq.{take-suc, take-suc-set}
 use Rattle.listing.specs.Appended.{Appended, Room}
 
@@ -59,3 +60,8 @@ appended-turn text out₀ out at i l r a =
     let n : at + i + 1 ≡ at + (i + 1) = omega arith in
     subst (λ (m : ℕ). Appended (take (i + 1) text) at m out₀ (set out (at + i) b)) n
     (appended-then (take i text) (b ∷ []) e a (appended-byte b (at + i) out (record { fits = omega (arith, a .size) })))
+
+-- ---- a text from the start of the buffer
+
+pub appended-whole : {s : List ℕ} {n : ℕ} {out out′ : List ℕ} → Appended s 0 n out out′ → (n ≤ length out′) × (take n out′ ≡ s)
+appended-whole {s} {n} {out} {out′} a = (omega (arith, length-take n out′, min-le-right n (length out′), ap length (a .text)), a .text)

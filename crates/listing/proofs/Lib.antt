@@ -1,3 +1,5 @@
 pub mod AppendLaws
 pub mod TextLaws
 pub mod AnswerLaws
+pub mod LengthLaws
+pub mod PrintedLaws
