@@ -3,3 +3,4 @@ pub mod TextLaws
 pub mod AnswerLaws
 pub mod LengthLaws
 pub mod PrintedLaws
+pub mod Cases
