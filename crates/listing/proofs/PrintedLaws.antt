@@ -4,7 +4,7 @@ use mathlib.Core.List.{List, [], _∷_}
 use mathlib.Core.Path.{_∙_, _≡_, ap, ap₂, refl, sym}
 use Prim.Native.Nat.{_*_, _+_, _-_, _/_, _<_, _≤_, max, suc, zero, zero-le, ℕ}
 use native.Mathlib.Decide.{decLt}
-use native.Mathlib.Nat.{mul-le-mul}
+use native.Mathlib.Nat.{mul-le-mul, not-suc-le-zero}
 use native.Mathlib.Omega.{arith}
 use borrow.Author.Tests.{le-ltb, lt-ltb, ne-eqb}
 use lib.Dec.{T, eqb, leb, leb→le, ltb}
@@ -131,14 +131,24 @@ module _ (W H e : ℕ) (image : List ℕ) where
       first : firstRefusal rows ≡ firstRefusal (tooLong W H e)
       first = third-hit (row1 W H) (row2 e) _ (row4 W H image ∷ []) wrong
 
--- a decomposition in buffers of zeros
-pub taken-is : (W H e : ℕ) (image : List ℕ) (l k l₀ k₀ l′ k′ : List ℕ) (a : Answer) → length l ≡ W * H → length k ≡ 3 * planeBytes W H
-    → l₀ ≡ replicate (length l) 0 → k₀ ≡ replicate (length k) 0 → outcome a (l′ ∷ k′ ∷ []) ≡ decomposed W H e image l₀ k₀
-    → outcomeText W H (taken W H e image) ≡ answerText W H a l′
-taken-is W H e image l k l₀ k₀ l′ k′ a p q u v o =
-    let x : l₀ ≡ replicate (W * H) 0 = u ∙ ap (λ (n : ℕ). replicate n 0) p in
-    let y : k₀ ≡ replicate (3 * planeBytes W H) 0 = v ∙ ap (λ (n : ℕ). replicate n 0) q in
-    ap (outcomeText W H) (sym (o ∙ ap₂ (λ (s t : List ℕ). decomposed W H e image s t) x y))
+-- ---- buffers of zeros
+
+pub zeros-length : (n : ℕ) (l : List ℕ) → l ≡ replicate n 0 → length l ≡ n
+zeros-length n l e = ap length e ∙ length-replicate n 0
+
+zeros-front : (k n : ℕ) → k ≤ n → take k (replicate {A = ℕ} n 0) ≡ replicate k 0
+zeros-front zero n h = refl
+zeros-front (suc k) zero h = absurd (not-suc-le-zero h)
+zeros-front (suc k) (suc n) h = ap (λ (l : List ℕ). 0 ∷ l) (zeros-front k n (omega arith))
+
+-- a part of k of n zeros, lent
+pub zeros-part : (k n : ℕ) (l : List ℕ) → l ≡ replicate n 0 → k ≤ n → take k l ≡ replicate k 0
+zeros-part k n l e h = ap (take k) e ∙ zeros-front k n h
+
+-- a decomposition in them
+pub taken-is : (W H e : ℕ) (image l k l′ k′ : List ℕ) (a : Answer) → l ≡ replicate (W * H) 0 → k ≡ replicate (3 * planeBytes W H) 0
+    → outcome a (l′ ∷ k′ ∷ []) ≡ decomposed W H e image l k → outcomeText W H (taken W H e image) ≡ answerText W H a l′
+taken-is W H e image l k l′ k′ a u v o = ap (outcomeText W H) (sym (o ∙ ap₂ (λ (s t : List ℕ). decomposed W H e image s t) u v))
 
 -- ---- an input
 

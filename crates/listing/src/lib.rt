@@ -3,10 +3,10 @@ mod answer;
 mod text;
 
 ghost use mathlib.Core.Path.{_≡_};
-ghost use Prim.Native.Nat.{_+_, _*_, _≤_, _<_};
-ghost use lib.ListN.{length, take};
+ghost use Prim.Native.Nat.{_+_, _*_, _≤_};
+ghost use lib.ListN.{length, replicate};
 ghost use Rattle.morphology.specs.Image.{planeBytes};
-ghost use Rattle.listing.specs.Appended.{Appended, Room};
+ghost use Rattle.listing.specs.Appended.{Appended, Listed, Room};
 ghost use Rattle.listing.specs.Printed.{longest, numberAt, outcomeText, printed, taken};
 
 // The largest side, and the bytes of the longest row.
@@ -16,10 +16,6 @@ const STRIDE: usize = 32;
 
 // Bytes to read: one more than the longest input has, which is then refused (`printed-enough`).
 pub const INPUT: usize = 6 + SIDE * STRIDE + 1;
-
-pub const LABELS: usize = SIDE * SIDE;
-
-pub const WORK: usize = 3 * SIDE * STRIDE;
 
 // The longest output: the first line, and labels of three digits, each with what ends it.
 pub const OUTPUT: usize = 18 + SIDE * SIDE * 4;
@@ -44,18 +40,16 @@ fn list_image(
     work: &mut [u8],
     out: &mut [u8],
 ) -> usize
-    requires { ⌜ (length (now labels) ≡ w * h) × (length (now work) ≡ 3 * planeBytes w h) × Room (outcomeText w h (taken w h element (now image))) 0 (now out) ⌝ }
+    requires { ⌜ (now labels ≡ replicate (w * h) 0) × (now work ≡ replicate (3 * planeBytes w h) 0) × Room (outcomeText w h (taken w h element (now image))) 0 (now out) ⌝ }
     ensures { λ n. ⌜ Appended (outcomeText w h (taken w h element (now (image .entry)))) 0 n (now (out .entry)) (now (out .exit)) ⌝ }
 {
-    raster::fill(labels, 0);
-    raster::fill(work, 0);
     let answer = skeleton::decompose(w, h, element, image, labels, work);
     answer::put_answer(answer, w, h, &labels[..], 0, out)
 }
 
-// The input listed in buffers that are large enough for every image.
+// The input listed, with labels and work for the largest image.
 fn list_bytes(input: &[u8], labels: &mut [u8], work: &mut [u8], out: &mut [u8]) -> usize
-    requires { ⌜ (length (now labels) ≡ 65025) × (length (now work) ≡ 24480) × (length (now out) ≡ longest) ⌝ }
+    requires { ⌜ (now labels ≡ replicate 65025 0) × (now work ≡ replicate 24480 0) × (length (now out) ≡ longest) ⌝ }
     ensures { λ n. ⌜ Appended (printed (now (input .entry))) 0 n (now (out .entry)) (now (out .exit)) ⌝ }
 {
     if input.len() < 6 {
@@ -76,15 +70,11 @@ fn list_bytes(input: &[u8], labels: &mut [u8], work: &mut [u8], out: &mut [u8]) 
     )
 }
 
-// What is printed for the bytes read, at the start of out; answers how many bytes it has. What the other buffers held does not matter.
-pub fn list(
-    input: &[u8],
-    labels: &mut [u8; LABELS],
-    work: &mut [u8; WORK],
-    out: &mut [u8; OUTPUT],
-) -> usize
-    ensures within { λ n. ⌜ n ≤ length (now (out .exit)) ⌝ }
-    ensures text { λ n. ⌜ take n (now (out .exit)) ≡ printed (now (input .entry)) ⌝ }
+// What is printed for the bytes read, at the start of out; answers how many bytes it has.
+pub fn list(input: &[u8], out: &mut [u8; OUTPUT]) -> usize
+    ensures { λ n. ⌜ Listed (printed (now (input .entry))) n (now (out .entry)) (now (out .exit)) ⌝ }
 {
-    list_bytes(input, labels, work, out)
+    let mut labels = [0u8; SIDE * SIDE];
+    let mut work = [0u8; 3 * SIDE * STRIDE];
+    list_bytes(input, &mut labels, &mut work, out)
 }

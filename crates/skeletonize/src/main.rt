@@ -2,10 +2,8 @@
 // Input past `listing::INPUT` bytes is not read: it changes nothing (`printed-enough` in listing/proofs/PrintedLaws.antt).
 fn main() {
     let mut input = [0u8; listing::INPUT];
-    let mut labels = [0u8; listing::LABELS];
-    let mut work = [0u8; listing::WORK];
     let mut out = [0u8; listing::OUTPUT];
     let read = io::read_full(0, &mut input);
-    let n = listing::list(&input[..read], &mut labels, &mut work, &mut out);
+    let n = listing::list(&input[..read], &mut out);
     io::write_all(1, &out[..n]);
 }

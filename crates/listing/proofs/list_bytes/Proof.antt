@@ -3,11 +3,11 @@ use mathlib.Core.Path.{_∙_, ap, sym}
 use Prim.Native.Nat.{_*_, _+_, _-_, _/_, ℕ}
 use native.Mathlib.Omega.{arith}
 use denote.Ref.{now}
-use lib.ListN.{drop, getD, length, take}
+use lib.ListN.{drop, getD, length, replicate, take}
 use lib.Seq.{length-take-le}
 use Rattle.listing.proofs.AppendLaws.{appended-as}
 use Rattle.listing.proofs.LengthLaws.{refusal-length}
-use Rattle.listing.proofs.PrintedLaws.{outcome-fits, plane-is, printed-part, printed-short, sizes}
+use Rattle.listing.proofs.PrintedLaws.{outcome-fits, plane-is, printed-part, printed-short, sizes, zeros-length, zeros-part}
 use borrow.Author.Needs.{needs}
 use Rattle.listing.proofs.list_bytes.Statement.{statement}
 use Rattle.listing.proofs.list_bytes.Tie as tie
@@ -64,24 +64,24 @@ part-list-image-end : tie.Need-part-list-image-end
 part-list-image-end c = search needs
 
 slice-relend-prefix-list-image : tie.Need-slice-relend-prefix-list-image
-slice-relend-prefix-list-image c = let s = c .before .before .before .before .before .before .before .before .before in let i = now (s .args .input) in let z = sizes (getD i 0 0) (getD i 1 0) (c .before .before .before .shared-slice-known2 .given 0 .fits) (c .before .before .shared-slice-known3 .given 1 .fits) in omega (arith, s .pre .0)
+slice-relend-prefix-list-image c = let s = c .before .before .before .before .before .before .before .before .before in let i = now (s .args .input) in let z = sizes (getD i 0 0) (getD i 1 0) (c .before .before .before .shared-slice-known2 .given 0 .fits) (c .before .before .shared-slice-known3 .given 1 .fits) in omega (arith, zeros-length 65025 (now (s .args .labels)) (s .pre .0))
 
 slice-aggregate-list-image : tie.Need-slice-aggregate-list-image
-slice-aggregate-list-image c = let s = c .before .before .before .before .before .before .before .before .before .before in let i = now (s .args .input) in let z = sizes (getD i 0 0) (getD i 1 0) (c .before .before .before .before .shared-slice-known2 .given 0 .fits) (c .before .before .before .shared-slice-known3 .given 1 .fits) in sym (length-take-le (getD i 0 0 * getD i 1 0) (now (s .args .labels)) (omega (arith, s .pre .0)))
+slice-aggregate-list-image c = let s = c .before .before .before .before .before .before .before .before .before .before in let i = now (s .args .input) in let z = sizes (getD i 0 0) (getD i 1 0) (c .before .before .before .before .shared-slice-known2 .given 0 .fits) (c .before .before .before .shared-slice-known3 .given 1 .fits) in sym (length-take-le (getD i 0 0 * getD i 1 0) (now (s .args .labels)) (omega (arith, zeros-length 65025 (now (s .args .labels)) (s .pre .0))))
 
 slice-relend-prefix-list-image-2 : tie.Need-slice-relend-prefix-list-image-2
-slice-relend-prefix-list-image-2 c = let s = c .before .before .before .before .before .before .before .before .before .before in let i = now (s .args .input) in let z = sizes (getD i 0 0) (getD i 1 0) (c .before .before .before .before .shared-slice-known2 .given 0 .fits) (c .before .before .before .shared-slice-known3 .given 1 .fits) in omega (arith, s .pre .1)
+slice-relend-prefix-list-image-2 c = let s = c .before .before .before .before .before .before .before .before .before .before in let i = now (s .args .input) in let z = sizes (getD i 0 0) (getD i 1 0) (c .before .before .before .before .shared-slice-known2 .given 0 .fits) (c .before .before .before .shared-slice-known3 .given 1 .fits) in omega (arith, zeros-length 24480 (now (s .args .work)) (s .pre .1))
 
 slice-aggregate-list-image-2 : tie.Need-slice-aggregate-list-image-2
-slice-aggregate-list-image-2 c = let s = c .before .before .before .before .before .before .before .before .before .before .before in let i = now (s .args .input) in let z = sizes (getD i 0 0) (getD i 1 0) (c .before .before .before .before .before .shared-slice-known2 .given 0 .fits) (c .before .before .before .before .shared-slice-known3 .given 1 .fits) in sym (length-take-le (3 * (getD i 1 0 * ((getD i 0 0 + 7) / 8))) (now (s .args .work)) (omega (arith, s .pre .1)))
+slice-aggregate-list-image-2 c = let s = c .before .before .before .before .before .before .before .before .before .before .before in let i = now (s .args .input) in let z = sizes (getD i 0 0) (getD i 1 0) (c .before .before .before .before .before .shared-slice-known2 .given 0 .fits) (c .before .before .before .before .shared-slice-known3 .given 1 .fits) in sym (length-take-le (3 * (getD i 1 0 * ((getD i 0 0 + 7) / 8))) (now (s .args .work)) (omega (arith, zeros-length 24480 (now (s .args .work)) (s .pre .1))))
 
 list-image-requires : tie.Need-list-image-requires
 list-image-requires c κs =
     let s = c .before .before .before .before .before .before .before .before .before .before .before .before in
     let i = now (s .args .input) in
     let z = sizes (getD i 0 0) (getD i 1 0) (c .before .before .before .before .before .before .shared-slice-known2 .given 0 .fits) (c .before .before .before .before .before .shared-slice-known3 .given 1 .fits) in (
-      length-take-le (getD i 0 0 * getD i 1 0) (now (s .args .labels)) (omega (arith, s .pre .0)),
-      length-take-le (3 * (getD i 1 0 * ((getD i 0 0 + 7) / 8))) (now (s .args .work)) (omega (arith, s .pre .1)) ∙ ap (λ (n : ℕ). 3 * n) (sym (plane-is (getD i 0 0) (getD i 1 0))),
+      zeros-part (getD i 0 0 * getD i 1 0) 65025 (now (s .args .labels)) (s .pre .0) (omega arith),
+      zeros-part (3 * (getD i 1 0 * ((getD i 0 0 + 7) / 8))) 24480 (now (s .args .work)) (s .pre .1) (omega arith) ∙ ap (λ (n : ℕ). replicate (3 * n) 0) (sym (plane-is (getD i 0 0) (getD i 1 0))),
       record { fits = omega (arith, outcome-fits (getD i 0 0) (getD i 1 0) (c .before .before .before .before .element-of .result) (take (length i - 6) (drop 6 i)) z, s .pre .2) },
     )
 

@@ -1,6 +1,7 @@
 -- `skeletonize::main` meets its contract: every part that it lends is within its buffer.
 use mathlib.Core.Path.{sym}
 use lib.Seq.{length-take-le}
+use Rattle.listing.proofs.AppendLaws.{listed-within}
 use borrow.Author.Needs.{needs}
 use Rattle.skeletonize.proofs.main.Statement.{statement}
 use Rattle.skeletonize.proofs.main.Tie as tie
@@ -21,10 +22,10 @@ list-requires : tie.Need-list-requires
 list-requires c κs = search needs
 
 array-share-prefix-out : tie.Need-array-share-prefix-out
-array-share-prefix-out c = search needs
+array-share-prefix-out c = listed-within (c .list .ensures)
 
 slice-aggregate-write-all : tie.Need-slice-aggregate-write-all
-slice-aggregate-write-all c = let l = c .before .list in sym (length-take-le (l .result) _ (l .ensures .0))
+slice-aggregate-write-all c = let l = c .before .list in sym (length-take-le (l .result) _ (listed-within (l .ensures)))
 
 write-all-requires : tie.Need-write-all-requires
 write-all-requires c κs = search needs
