@@ -7,7 +7,7 @@ ghost use Prim.Native.Nat.{_+_, _*_, _≤_};
 ghost use lib.ListN.{length, replicate};
 ghost use Rattle.morphology.specs.Image.{planeBytes};
 ghost use Rattle.listing.specs.Appended.{Appended, Listed, Room};
-ghost use Rattle.listing.specs.Printed.{longest, numberAt, outcomeText, printed, taken};
+ghost use Rattle.listing.specs.Printed.{longest, outcomeText, printed, taken};
 
 // The largest side, and the bytes of the longest row.
 const SIDE: usize = 255;
@@ -20,18 +20,15 @@ pub const INPUT: usize = 6 + SIDE * STRIDE + 1;
 // The longest output: the first line, and labels of three digits, each with what ends it.
 pub const OUTPUT: usize = 18 + SIDE * SIDE * 4;
 
-// The element: four bytes from the third on, lowest first.
-fn element_of(input: &[u8]) -> u32
-    requires { ⌜ 6 ≤ length (now input) ⌝ }
-    ensures { λ e. ⌜ e ≡ numberAt (now (input .entry)) 2 ⌝ }
+// A number of four bytes, lowest first.
+fn number(a: u8, b: u8, c: u8, d: u8) -> u32
+    ensures { λ n. ⌜ n ≡ a + 256 * b + 65536 * c + 16777216 * d ⌝ }
 {
-    let low = input[2] as u32 + 256 * (input[3] as u32);
-    let high = 65536 * (input[4] as u32) + 16777216 * (input[5] as u32);
-    low + high
+    a as u32 + 256 * (b as u32) + 65536 * (c as u32) + 16777216 * (d as u32)
 }
 
 // An image decomposed in labels and work of its size, and listed.
-fn list_image(
+fn list_within(
     w: u32,
     h: u32,
     element: u32,
@@ -47,6 +44,32 @@ fn list_image(
     answer::put_answer(answer, w, h, &labels[..], 0, out)
 }
 
+// An image listed, with labels and work for the largest.
+fn list_image(
+    w: u8,
+    h: u8,
+    element: u32,
+    image: &[u8],
+    labels: &mut [u8],
+    work: &mut [u8],
+    out: &mut [u8],
+) -> usize
+    requires { ⌜ (now labels ≡ replicate 65025 0) × (now work ≡ replicate 24480 0) × (length (now out) ≡ longest) ⌝ }
+    ensures { λ n. ⌜ Appended (outcomeText w h (taken w h element (now (image .entry)))) 0 n (now (out .entry)) (now (out .exit)) ⌝ }
+{
+    let places = w as usize * (h as usize);
+    let bytes = 3 * (h as usize * ((w as usize + 7) / 8));
+    list_within(
+        w as u32,
+        h as u32,
+        element,
+        image,
+        &mut labels[..places],
+        &mut work[..bytes],
+        out,
+    )
+}
+
 // The input listed, with labels and work for the largest image.
 fn list_bytes(input: &[u8], labels: &mut [u8], work: &mut [u8], out: &mut [u8]) -> usize
     requires { ⌜ (now labels ≡ replicate 65025 0) × (now work ≡ replicate 24480 0) × (length (now out) ≡ longest) ⌝ }
@@ -55,19 +78,8 @@ fn list_bytes(input: &[u8], labels: &mut [u8], work: &mut [u8], out: &mut [u8]) 
     if input.len() < 6 {
         return answer::put_refusal(3, 0, out);
     }
-    let w = input[0] as u32;
-    let h = input[1] as u32;
-    let places = (w * h) as usize;
-    let bytes = (3 * (h * ((w + 7) / 8))) as usize;
-    list_image(
-        w,
-        h,
-        element_of(input),
-        &input[6..],
-        &mut labels[..places],
-        &mut work[..bytes],
-        out,
-    )
+    let element = number(input[2], input[3], input[4], input[5]);
+    list_image(input[0], input[1], element, &input[6..], labels, work, out)
 }
 
 // What is printed for the bytes read, at the start of out; answers how many bytes it has.

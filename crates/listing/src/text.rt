@@ -6,12 +6,6 @@ ghost use lib.ListN.{length};
 ghost use Rattle.listing.specs.Appended.{Appended, Room};
 ghost use Rattle.listing.specs.Text.{decimal, line, mapText, wordAt};
 
-const SPACE: u8 = 32;
-
-const LINE_FEED: u8 = 10;
-
-const ZERO: u8 = 48;
-
 // A byte.
 pub fn put(byte: u8, at: usize, out: &mut [u8]) -> usize
     requires { ⌜ Room (byte ∷ []) at (now out) ⌝ }
@@ -40,10 +34,10 @@ pub fn put_decimal(n: u32, at: usize, out: &mut [u8]) -> usize
     ensures { λ next. ⌜ Appended (decimal n) at next (now (out .entry)) (now (out .exit)) ⌝ }
 {
     if n < 10 {
-        return put(ZERO + n as u8, at, out);
+        return put(b'0' + n as u8, at, out);
     }
     let last = put_decimal(n / 10, at, out);
-    put(ZERO + (n % 10) as u8, last, out)
+    put(b'0' + (n % 10) as u8, last, out)
 }
 
 // Word i of a line, a number, after a space but for the first.
@@ -54,7 +48,7 @@ pub fn put_word(i: usize, n: u32, at: usize, out: &mut [u8]) -> usize
     if i == 0 {
         return put_decimal(n, at, out);
     }
-    let word = put(SPACE, at, out);
+    let word = put(b' ', at, out);
     put_decimal(n, word, out)
 }
 
@@ -69,7 +63,7 @@ pub fn put_row(row: &[u8], at: usize, out: &mut [u8]) -> usize
         next = put_word(i, row[i] as u32, next, out);
         i = i + 1;
     }
-    put(LINE_FEED, next, out)
+    put(b'\n', next, out)
 }
 
 // A map of h rows of w labels.
