@@ -1,0 +1,91 @@
+-- `listing::list_bytes` meets its contract.
+use mathlib.Core.Path.{sym}
+use Prim.Native.Nat.{_-_}
+use native.Mathlib.Omega.{arith}
+use denote.Ref.{now}
+use lib.ListN.{length}
+use Rattle.listing.proofs.AppendLaws.{appended-as}
+use Rattle.listing.proofs.LengthLaws.{refusal-length}
+use Rattle.listing.proofs.PrintedLaws.{printed-part, printed-short}
+use borrow.Author.Needs.{needs}
+use Rattle.listing.proofs.list_bytes.Statement.{statement}
+use Rattle.listing.proofs.list_bytes.Tie as tie
+
+put-refusal-requires : tie.Need-put-refusal-requires
+put-refusal-requires c κs = record { fits = omega (arith, refusal-length 3 (omega arith), c .before .before .before .before .before .before .pre .2) }
+
+same-length : tie.Need-same-length
+same-length c = search needs
+
+returns : tie.Need-returns
+returns c = appended-as (sym (printed-short (now (c .before .before .before .before .before .before .before .before .before .args .input)) (c .before .before .before .before .if1 .taken))) (c .before .before .put-refusal .ensures)
+
+shared-slice-read-number : tie.Need-shared-slice-read-number
+shared-slice-read-number c = search needs
+
+shared-slice-read-number-2 : tie.Need-shared-slice-read-number-2
+shared-slice-read-number-2 c = search needs
+
+shared-slice-read-number-3 : tie.Need-shared-slice-read-number-3
+shared-slice-read-number-3 c = search needs
+
+shared-slice-read-number-4 : tie.Need-shared-slice-read-number-4
+shared-slice-read-number-4 c = search needs
+
+number-requires : tie.Need-number-requires
+number-requires c κs = search needs
+
+shared-slice-read-list-image : tie.Need-shared-slice-read-list-image
+shared-slice-read-list-image c = search needs
+
+shared-slice-read-list-image-2 : tie.Need-shared-slice-read-list-image-2
+shared-slice-read-list-image-2 c = search needs
+
+sub-list-image : tie.Need-sub-list-image
+sub-list-image c = search needs
+
+part-list-image-start : tie.Need-part-list-image-start
+part-list-image-start c = search needs
+
+part-list-image-end : tie.Need-part-list-image-end
+part-list-image-end c = search needs
+
+list-image-requires : tie.Need-list-image-requires
+list-image-requires c κs = c .before .before .before .before .before .before .before .before .before .before .before .before .before .before .before .before .pre
+
+same-length-2 : tie.Need-same-length-2
+same-length-2 c = search needs
+
+same-length-3 : tie.Need-same-length-3
+same-length-3 c = search needs
+
+same-length-4 : tie.Need-same-length-4
+same-length-4 c = search needs
+
+returns-2 : tie.Need-returns-2
+returns-2 c =
+    let i = now (c .before .before .before .before .before .before .before .before .before .before .before .before .before .before .before .before .before .before .before .before .before .before .before .args .input) in
+    appended-as (printed-part i (length i - 6) (c .before .before .before .before .before .before .before .before .before .before .before .before .before .number .result) (omega arith) (omega arith) (c .before .before .before .before .before .before .before .before .before .before .before .before .before .number .ensures)) (c .before .before .before .before .before .before .list-image .ensures)
+
+pub list-bytes-spec : {M : Type 1} → statement M
+list-bytes-spec =
+    tie.close
+    (tie.spec
+    put-refusal-requires
+    same-length
+    returns
+    shared-slice-read-number
+    shared-slice-read-number-2
+    shared-slice-read-number-3
+    shared-slice-read-number-4
+    number-requires
+    shared-slice-read-list-image
+    shared-slice-read-list-image-2
+    sub-list-image
+    part-list-image-start
+    part-list-image-end
+    list-image-requires
+    same-length-2
+    same-length-3
+    same-length-4
+    returns-2)

@@ -1,0 +1,4 @@
+pub mod Text
+pub mod Printed
+pub mod Appended
+pub mod Cases

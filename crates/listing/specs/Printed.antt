@@ -1,0 +1,57 @@
+-- The program of 01: what it prints for the bytes that it reads. Definitions only; proofs/PrintedLaws.antt has the laws.
+use mathlib.Core.Bool.{cond}
+use mathlib.Core.List.{List, [], _++_, _∷_}
+use Prim.Native.Nat.{_*_, _+_, ℕ}
+use lib.Dec.{ltb}
+use lib.ListN.{drop, getD, length, replicate}
+use Rattle.morphology.specs.Answers.{Answer, Outcome, output}
+use Rattle.morphology.specs.Image.{planeBytes}
+use Rattle.morphology.specs.Operations.{decomposed}
+use Rattle.listing.specs.Text.{decimal, line, mapText}
+
+-- "refused"
+abbrev pub refusedWord : List ℕ
+refusedWord = 114 ∷ 101 ∷ 102 ∷ 117 ∷ 115 ∷ 101 ∷ 100 ∷ []
+
+-- "-"
+abbrev pub noSize : List ℕ
+noSize = 45 ∷ []
+
+-- a refusal: the word and the number
+unfoldable pub refusalText : ℕ → List ℕ
+refusalText n = line (refusedWord ∷ decimal n ∷ [])
+
+-- width, height, number of points, largest size; then the map
+unfoldable pub skeletonText : ℕ → ℕ → ℕ → List ℕ → List ℕ → List ℕ
+skeletonText W H points largest m = line (decimal W ∷ decimal H ∷ decimal points ∷ largest ∷ []) ++ mapText W H m
+
+-- what a decomposition answers: of a refusal the number alone; an empty image has no largest size
+unfoldable pub answerText : ℕ → ℕ → Answer → List ℕ → List ℕ
+answerText W H a m = text (a .values)
+  where
+    text : List ℕ → List ℕ
+    text [] = refusalText (a .refusal)
+    text (points ∷ []) = skeletonText W H points noSize m
+    text (points ∷ largest ∷ rest) = skeletonText W H points (decimal largest) m
+
+abbrev pub outcomeText : ℕ → ℕ → Outcome → List ℕ
+outcomeText W H o = answerText W H (o .answer) (output o)
+
+-- the number at i, of four bytes, lowest first
+abbrev pub numberAt : List ℕ → ℕ → ℕ
+numberAt s i = getD s i 0 + 256 * getD s (i + 1) 0 + 65536 * getD s (i + 2) 0 + 16777216 * getD s (i + 3) 0
+
+-- an image decomposed, with buffers of the lengths that 01 asks for
+abbrev pub taken : ℕ → ℕ → ℕ → List ℕ → Outcome
+taken W H e image = decomposed W H e image (replicate (W * H) 0) (replicate (3 * planeBytes W H) 0)
+
+-- a byte W, a byte H, the element in four bytes, the image; below six bytes refusal 3
+unfoldable pub printed : List ℕ → List ℕ
+printed input =
+    let W = getD input 0 0 in
+    let H = getD input 1 0 in
+    cond (ltb (length input) 6) (refusalText 3) (outcomeText W H (taken W H (numberAt input 2) (drop 6 input)))
+
+-- the largest output: "255 255 65025 254" and 255 times 255 labels of three digits, each with what ends it
+abbrev pub longest : ℕ
+longest = 18 + 255 * 255 * 4
