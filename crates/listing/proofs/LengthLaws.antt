@@ -1,12 +1,13 @@
 -- How long a text is at most.
 use mathlib.Core.List.{List, [], _++_, _∷_}
-use mathlib.Core.Path.{ap}
+use mathlib.Core.Path.{_≡_, ap}
 use Prim.Native.Nat.{_*_, _+_, _/_, _<_, _≤_, suc, zero, zero-le, ℕ}
 use native.Mathlib.Decide.{decLt}
 use native.Mathlib.Nat.{min-le-left, mul-le-mul, suc-mul}
 use native.Mathlib.Omega.{arith}
 use lib.ListN.{drop, length, length-append, length-take, take}
 use Rattle.morphology.specs.Lists.{greatest}
+use Rattle.listing.specs.Appended.{Room}
 use Rattle.listing.specs.Printed.{longest, refusalText, skeletonText}
 use Rattle.listing.specs.Text.{after, decimal, line, lineFeed, mapText, space, spaced}
 use Rattle.listing.proofs.AnswerLaws.{counts, counts-pieces, refusal-pieces, skeleton-pieces}
@@ -71,6 +72,9 @@ map-words W (suc H) m h l =
 
 pub refusal-length : (n : ℕ) → n < 10 → length (refusalText n) ≤ longest
 refusal-length n l = omega (arith, ap length (refusal-pieces n), length-append (decimal n) (lineFeed ∷ []), one-digit n l)
+
+pub refusal-room : {n : ℕ} {out : List ℕ} → n < 10 → length out ≡ longest → Room (refusalText n) 0 out
+refusal-room {n} {out} l e = record { fits = omega (arith, refusal-length n l) }
 
 -- the largest output: every number of the first line with its most digits, and 255 times 255 labels
 pub skeleton-length : (W H points : ℕ) (largest m : List ℕ) → 0 < W → W ≤ 255 → H ≤ 255 → points < 100000 → length largest ≤ 3 → greatest m < 1000

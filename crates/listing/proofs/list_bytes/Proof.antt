@@ -5,14 +5,14 @@ use native.Mathlib.Omega.{arith}
 use denote.Ref.{now}
 use lib.ListN.{length}
 use Rattle.listing.proofs.AppendLaws.{appended-as}
-use Rattle.listing.proofs.LengthLaws.{refusal-length}
+use Rattle.listing.proofs.LengthLaws.{refusal-room}
 use Rattle.listing.proofs.PrintedLaws.{printed-part, printed-short}
 use borrow.Author.Needs.{needs}
 use Rattle.listing.proofs.list_bytes.Statement.{statement}
 use Rattle.listing.proofs.list_bytes.Tie as tie
 
 put-refusal-requires : tie.Need-put-refusal-requires
-put-refusal-requires c κs = record { fits = omega (arith, refusal-length 3 (omega arith), c .before .before .before .before .before .before .pre .2) }
+put-refusal-requires c κs = refusal-room (omega arith) (c .before .before .before .before .before .before .pre .2)
 
 same-length : tie.Need-same-length
 same-length c = search needs

@@ -18,7 +18,7 @@ put-requires : tie.Need-put-requires
 put-requires c κs = let s = c .before .before .before .before .before .before .before .before .before .before .before in let a = s .args in room-first _ _ refl (room-next _ _ refl (room-next _ _ (skeleton-pieces (a .w) (a .h) (a .points) (decimal (a .largest)) (now (a .labels))) (s .pre .1) (c .before .before .before .before .before .before .before .put-counts .ensures)) (c .before .before .before .put-word .ensures))
 
 put-map-requires : tie.Need-put-map-requires
-put-map-requires c κs = let s = c .before .before .before .before .before .before .before .before .before .before .before .before .before .before .before in let a = s .args in (s .pre .0, room-next _ _ refl (room-next _ _ refl (room-next _ _ (skeleton-pieces (a .w) (a .h) (a .points) (decimal (a .largest)) (now (a .labels))) (s .pre .1) (c .before .before .before .before .before .before .before .before .before .before .before .put-counts .ensures)) (c .before .before .before .before .before .before .before .put-word .ensures)) (c .before .before .before .put .ensures))
+put-map-requires c κs = let s = c .before .before .before .before .before .before .before .before .before .before .before .before .before .before .before in let a = s .args in (search needs, room-next _ _ refl (room-next _ _ refl (room-next _ _ (skeleton-pieces (a .w) (a .h) (a .points) (decimal (a .largest)) (now (a .labels))) (s .pre .1) (c .before .before .before .before .before .before .before .before .before .before .before .put-counts .ensures)) (c .before .before .before .before .before .before .before .put-word .ensures)) (c .before .before .before .put .ensures))
 
 same-length : tie.Need-same-length
 same-length c = search needs
