@@ -1,0 +1,31 @@
+//! Runs the proved programs of the repository. They are in target/bin once `rt check` has passed.
+
+use std::io::{ErrorKind, Write};
+use std::path::Path;
+use std::process::{Command, Stdio};
+use std::thread;
+
+/// What a program writes to standard output for these bytes of standard input, handed over in pieces of at most so many bytes.
+pub fn run(program: &str, input: &[u8], piece: usize) -> Vec<u8> {
+    let path = Path::new(env!("CARGO_MANIFEST_DIR")).join("../../target/bin").join(program);
+    let mut child = Command::new(&path)
+        .stdin(Stdio::piped())
+        .stdout(Stdio::piped())
+        .spawn()
+        .unwrap_or_else(|error| panic!("{}: {error}; `rt check` builds it", path.display()));
+    let mut stdin = child.stdin.take().expect("a pipe");
+    let input = input.to_vec();
+    let writer = thread::spawn(move || {
+        for part in input.chunks(piece) {
+            // A program need not read all of a long input.
+            match stdin.write_all(part) {
+                Err(error) if error.kind() == ErrorKind::BrokenPipe => break,
+                written => written.expect("a pipe that is open"),
+            }
+        }
+    });
+    let output = child.wait_with_output().expect("a child that ends");
+    writer.join().expect("the input is written");
+    assert!(output.status.success(), "{program}: {}", output.status);
+    output.stdout
+}
