@@ -20,9 +20,7 @@ pub mod PlaneLaws
 pub mod HitLaws
 pub mod DecomposeLaws
 pub mod ReconstructLaws
-pub mod CoverCountLaws
 pub mod OutcomeLaws
 pub mod FoldTurns
-pub mod MinimiseTurns
 pub mod ThinTurns
 pub mod Cases

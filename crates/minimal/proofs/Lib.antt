@@ -1,0 +1,2 @@
+pub mod CoverCountLaws
+pub mod MovedLaws
