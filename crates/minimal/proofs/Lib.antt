@@ -1,2 +1,5 @@
 pub mod CoverCountLaws
-pub mod MovedLaws
+pub mod SpreadLaws
+pub mod MoveLaws
+pub mod PixelLaws
+pub mod BandLaws

@@ -1,1 +1,3 @@
 pub mod Covers
+pub mod Moves
+pub mod Bands
