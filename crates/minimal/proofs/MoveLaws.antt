@@ -237,3 +237,11 @@ pixel-passes ink at a c e = tells-yes (λ k u. absurd (subst T e (and-r (ltb k 1
 
 pub twice-none : (F : ℕ → Bool) (at a : ℕ) (c : List ℕ) → ((k : ℕ) → F k ≡ false) → Twice F at a c
 twice-none F at a c e k t = absurd (subst T (e k) t)
+
+-- ---- moved where a test holds
+
+pub moved-when : (up b : Bool) (p : ℕ → Bool) (c u : List ℕ) → b ≡ true → Moved up p c u → Moved up (λ x. b && p x) c u
+moved-when up b p c u e m = record { size = m .size; places = λ x l. m .places x l ∙ ap (λ (t : Bool). counted up (t && p x) (getD c x 0)) (sym e) }
+
+pub moved-unless : (up b : Bool) (p : ℕ → Bool) (c : List ℕ) → b ≡ false → Moved up (λ x. b && p x) c c
+moved-unless up b p c e = record { size = refl; places = λ x l. sym (ap (λ (t : Bool). counted up (t && p x) (getD c x 0)) e ∙ counted-none up (getD c x 0)) }

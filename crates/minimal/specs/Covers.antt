@@ -12,9 +12,13 @@ use Rattle.morphology.specs.Minimal.{covers}
 use Rattle.morphology.specs.Morphology.{dilate, times}
 use Rattle.morphology.specs.Point.{Point, _⊞_, samePoint}
 
--- the place of i dilated n times: what a point of size n there covers
+-- place i alone
+abbrev pub single : ℕ → ℕ → (Point → Bool)
+single W i y = samePoint y (place W i)
+
+-- dilated n times: what a point of size n there covers
 abbrev pub spread : ℕ → List Point → ℕ → ℕ → (Point → Bool)
-spread W B n i = dilate (times B n) (λ y. samePoint y (place W i))
+spread W B n i = dilate (times B n) (single W i)
 
 -- a point of size n at place i stays on the frame
 abbrev pub Stays : ℕ → ℕ → List Point → ℕ → ℕ → Type 0

@@ -1,3 +1,4 @@
 pub mod Covers
 pub mod Moves
 pub mod Bands
+pub mod Sizes

@@ -1,1 +1,2 @@
 pub mod covers;
+pub mod sizes;
