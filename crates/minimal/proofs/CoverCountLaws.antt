@@ -9,7 +9,7 @@ use native.Mathlib.Nat.{add-suc, add-zero, suc-add, suc-ne-zero, zero-add}
 use native.Mathlib.Omega.{arith}
 use borrow.Author.Tests.{eq-eqb, ne-eqb}
 use lib.Dec.{T, T-not, eqb, eqb·suc-zero, eqb→eq, leb, leb→le, le→leb}
-use lib.ListN.{getD, set}
+use lib.ListN.{getD, length, set}
 use lib.Seq.{getD-set-other}
 use Rattle.morphology.specs.Image.{inside, onFrame}
 use Rattle.morphology.specs.Labels.{place, places, pointsOf, raster}
@@ -23,7 +23,7 @@ use Rattle.morphology.proofs.CountLaws.{count-le, count-none, count-some, count
 use Rattle.morphology.proofs.CoverLaws.{in-upTo, of-upTo}
 use Rattle.morphology.proofs.FrameLaws.{OnFrame}
 use Rattle.morphology.proofs.ImageLaws.{length-row, row-mem}
-use Rattle.morphology.proofs.LabelLaws.{getD-place, on-places}
+use Rattle.morphology.proofs.LabelLaws.{getD-place, length-raster, on-places}
 use Rattle.morphology.proofs.MinimalLaws.{getD-dropped, minimal-sub, other}
 use Rattle.morphology.proofs.MorphologyLaws.{dilate-in, dilate-out}
 use Rattle.morphology.proofs.PointLaws.{same-eq, same-refl}
@@ -82,6 +82,9 @@ module _ (W H : ℕ) (B : List Point) where
   pub cover-le : (m : List ℕ) (z : Point) → cover W H B m z ≤ W * H
   unfolding cover
   cover-le m z = subst (λ (n : ℕ). count (covers W B m z) (upTo (W * H)) ≤ n) (length-row (λ j. j) 0 (W * H)) (count-le (covers W B m z) (upTo (W * H)))
+
+  pub counts-length : (m : List ℕ) → length (counts W H B m) ≡ W * H
+  counts-length m = length-raster W H (cover W H B m)
 
   -- ---- one point's cover
 

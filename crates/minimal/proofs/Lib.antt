@@ -6,3 +6,4 @@ pub mod BandLaws
 pub mod SizeLaws
 pub mod CountingLaws
 pub mod MarkLaws
+pub mod WalkLaws

@@ -2,3 +2,4 @@ pub mod Covers
 pub mod Moves
 pub mod Bands
 pub mod Sizes
+pub mod Walks

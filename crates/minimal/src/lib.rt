@@ -1,2 +1,3 @@
 pub mod covers;
 pub mod sizes;
+pub mod walks;

@@ -66,7 +66,7 @@ fn count_size(
 }
 
 // The first plane emptied but for the pixel of place a.
-fn mark(w: usize, h: usize, r: usize, a: usize, work: &mut [u8])
+pub fn mark(w: usize, h: usize, r: usize, a: usize, work: &mut [u8])
     requires { ⌜ Frame w h r × (h * r ≤ length (now work)) × (a < w * h) ⌝ }
     ensures { λ _. ⌜ First w h (h * r) (single w a) (now (work .entry)) (now (work .exit)) ⌝ }
 {
