@@ -7,3 +7,4 @@ pub mod SizeLaws
 pub mod CountingLaws
 pub mod MarkLaws
 pub mod WalkLaws
+pub mod MinimiseLaws

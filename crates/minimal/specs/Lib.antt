@@ -3,3 +3,4 @@ pub mod Moves
 pub mod Bands
 pub mod Sizes
 pub mod Walks
+pub mod Minimised
