@@ -20,8 +20,6 @@ pub mod PlaneLaws
 pub mod BandLaws
 pub mod DecomposeLaws
 pub mod ReconstructLaws
-pub mod CoverCountLaws
 pub mod OutcomeLaws
 pub mod FoldTurns
-pub mod MinimiseTurns
 pub mod Cases

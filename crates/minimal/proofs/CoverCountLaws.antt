@@ -9,25 +9,26 @@ use native.Mathlib.Nat.{add-suc, add-zero, suc-add, suc-ne-zero, zero-add}
 use native.Mathlib.Omega.{arith}
 use borrow.Author.Tests.{eq-eqb, ne-eqb}
 use lib.Dec.{T, T-not, eqb, eqb·suc-zero, eqb→eq, leb, leb→le, le→leb}
-use lib.ListN.{getD, set}
+use lib.ListN.{getD, length, set}
 use lib.Seq.{getD-set-other}
 use Rattle.morphology.specs.Image.{inside, onFrame}
 use Rattle.morphology.specs.Labels.{place, places, pointsOf, raster}
 use Rattle.morphology.specs.Lists.{all, any, count, tabulate, upTo}
 use Rattle.morphology.specs.Minimal.{covers, dropAt, dropSize, dropSizes, isRedundant, minimalBelow}
 use Rattle.morphology.specs.Morphology.{dilate, times}
 use Rattle.morphology.specs.Point.{Point, _⊞_, origin, samePoint}
 use Rattle.morphology.specs.Skeleton.{stamp}
+use Rattle.minimal.specs.Covers.{Stays, counts, cover, spread}
 use Rattle.morphology.proofs.CountLaws.{count-le, count-none, count-some, count-suc, digit, digit-some}
 use Rattle.morphology.proofs.CoverLaws.{in-upTo, of-upTo}
 use Rattle.morphology.proofs.FrameLaws.{OnFrame}
 use Rattle.morphology.proofs.ImageLaws.{length-row, row-mem}
-use Rattle.morphology.proofs.LabelLaws.{getD-place, on-places}
+use Rattle.morphology.proofs.LabelLaws.{getD-place, length-raster, on-places}
 use Rattle.morphology.proofs.MinimalLaws.{getD-dropped, minimal-sub, other}
 use Rattle.morphology.proofs.MorphologyLaws.{dilate-in, dilate-out}
 use Rattle.morphology.proofs.PointLaws.{same-eq, same-refl}
 use Rattle.morphology.proofs.ReconstructLaws.{times-mono}
 use Rattle.morphology.proofs.TestLaws.{T-ext, all-in, all-out, and-in, and-l, and-r, any-in, any-out, decide, or-l, or-out, or-r}
 
 -- ---- counts of others
 
@@ -78,34 +79,14 @@ count-split p i s (suc n) h l = go (count-split p i (suc s) n) (ℕ-discrete s i
 -- ---- cover counts
 
 module _ (W H : ℕ) (B : List Point) where
-  -- how many of the map's points cover z
-  unfoldable pub cover : List ℕ → Point → ℕ
-  cover m z = count (covers W B m z) (upTo (W * H))
-
-  -- the counters
-  abbrev pub counts : List ℕ → List ℕ
-  counts m = raster W H (cover m)
-
-  pub cover-le : (m : List ℕ) (z : Point) → cover m z ≤ W * H
+  pub cover-le : (m : List ℕ) (z : Point) → cover W H B m z ≤ W * H
   unfolding cover
   cover-le m z = subst (λ (n : ℕ). count (covers W B m z) (upTo (W * H)) ≤ n) (length-row (λ j. j) 0 (W * H)) (count-le (covers W B m z) (upTo (W * H)))
 
-  -- ---- counting up, place by place
+  pub counts-length : (m : List ℕ) → length (counts W H B m) ≡ W * H
+  counts-length m = length-raster W H (cover W H B m)
 
-  unfoldable pub coverBelow : List ℕ → ℕ → Point → ℕ
-  coverBelow m i z = count (covers W B m z) (upTo i)
-
-  pub cover-start : (m : List ℕ) (z : Point) → coverBelow m 0 z ≡ 0
-  unfolding coverBelow count tabulate
-  cover-start m z = refl
-
-  pub cover-turn : (m : List ℕ) (i : ℕ) (z : Point) → coverBelow m (suc i) z ≡ coverBelow m i z + digit (covers W B m z i)
-  unfolding coverBelow
-  cover-turn m i z = count-suc (covers W B m z) (λ j. j) 0 i ∙ ap (λ (k : ℕ). coverBelow m i z + digit (covers W B m z k)) (zero-add i)
-
-  pub cover-last : (m : List ℕ) (z : Point) → coverBelow m (W * H) z ≡ cover m z
-  unfolding coverBelow cover
-  cover-last m z = refl
+  -- ---- one point's cover
 
   -- a place without a point covers nothing
   pub covers-none : (m : List ℕ) (i : ℕ) (z : Point) → getD m i 0 ≡ 0 → covers W B m z i ≡ false
@@ -152,68 +133,60 @@ module _ (W H : ℕ) (B : List Point) where
           ap (λ (v : ℕ). stamp B 0 (place W j) v z) (getD-set-other m i j 0 0 q)
           ∙ sym (ap (λ (b : Bool). not b && covers W B m z j) (ne-eqb j i q))
 
-  others : (m : List ℕ) (i : ℕ) (z : Point) → i < W * H → cover m z ≡ digit (covers W B m z i) + count (other W B m i z) (upTo (W * H))
+  others : (m : List ℕ) (i : ℕ) (z : Point) → i < W * H → cover W H B m z ≡ digit (covers W B m z i) + count (other W B m i z) (upTo (W * H))
   unfolding cover
   others m i z h = count-split (covers W B m z) i 0 (W * H) zero-le (omega arith)
 
   -- the counts fall by one on its cover, and nowhere else
-  pub cover-drop : (m : List ℕ) (i : ℕ) (z : Point) → i < W * H → cover m z ≡ digit (covers W B m z i) + cover (set m i 0) z
+  pub cover-drop : (m : List ℕ) (i : ℕ) (z : Point) → i < W * H → cover W H B m z ≡ digit (covers W B m z i) + cover W H B (set m i 0) z
   unfolding cover
   cover-drop m i z h =
       others m i z h ∙ ap (λ (p : ℕ → Bool). digit (covers W B m z i) + count p (upTo (W * H))) (sym (fun-ext (λ j. covers-dropped m i z j)))
 
   pub counts-drop : (m : List ℕ) (i x : ℕ) → i < W * H → x < W * H
-      → getD (counts (set m i 0)) x 0 ≡ getD (counts m) x 0 - digit (covers W B m (place W x) i)
+      → getD (counts W H B (set m i 0)) x 0 ≡ getD (counts W H B m) x 0 - digit (covers W B m (place W x) i)
   counts-drop m i x h l =
-      let a = getD-place W H (cover (set m i 0)) x l in
-      let b = getD-place W H (cover m) x l in
+      let a = getD-place W H (cover W H B (set m i 0)) x l in
+      let b = getD-place W H (cover W H B m) x l in
       let c = cover-drop m i (place W x) h in
       omega arith
 
   -- ---- the test by counts
 
   -- another point covers z, exactly when the count is two or more
-  pub other-count : (m : List ℕ) (i : ℕ) (z : Point) → i < W * H → T (covers W B m z i) → any (other W B m i z) (upTo (W * H)) ≡ leb 2 (cover m z)
+  pub other-count : (m : List ℕ) (i : ℕ) (z : Point) → i < W * H → T (covers W B m z i) → any (other W B m i z) (upTo (W * H)) ≡ leb 2 (cover W H B m z)
   other-count m i z h t =
       let c = count (other W B m i z) (upTo (W * H)) in
-      let q : cover m z ≡ 1 + c = others m i z h ∙ ap (λ (k : ℕ). k + c) (digit-some (covers W B m z i) t) in
+      let q : cover W H B m z ≡ 1 + c = others m i z h ∙ ap (λ (k : ℕ). k + c) (digit-some (covers W B m z i) t) in
       any-count (other W B m i z) (upTo (W * H))
-      ∙ T-ext (λ u. let l = leb→le 1 c u in le→leb 2 (cover m z) (omega arith)) (λ u. let l = leb→le 2 (cover m z) u in le→leb 1 c (omega arith))
+      ∙ T-ext (λ u. let l = leb→le 1 c u in le→leb 2 (cover W H B m z) (omega arith)) (λ u. let l = leb→le 2 (cover W H B m z) u in le→leb 1 c (omega arith))
 
   pub redundant-count : (m : List ℕ) (i n : ℕ) → i < W * H → getD m i 0 ≡ suc n
-      → isRedundant W H B n m i ≡ all (λ b. leb 2 (cover m (place W i ⊞ b))) (times B n)
+      → isRedundant W H B n m i ≡ all (λ b. leb 2 (cover W H B m (place W i ⊞ b))) (times B n)
   unfolding isRedundant
   redundant-count m i n h q = T-ext
-      (λ t. all-in (λ b. leb 2 (cover m (place W i ⊞ b))) (times B n) (λ b k. subst T (same b k) (all-out (λ b. any (other W B m i (place W i ⊞ b)) (upTo (W * H))) t k)))
-      (λ t. all-in (λ b. any (other W B m i (place W i ⊞ b)) (upTo (W * H))) (times B n) (λ b k. subst T (sym (same b k)) (all-out (λ b. leb 2 (cover m (place W i ⊞ b))) t k)))
+      (λ t. all-in (λ b. leb 2 (cover W H B m (place W i ⊞ b))) (times B n) (λ b k. subst T (same b k) (all-out (λ b. any (other W B m i (place W i ⊞ b)) (upTo (W * H))) t k)))
+      (λ t. all-in (λ b. any (other W B m i (place W i ⊞ b)) (upTo (W * H))) (times B n) (λ b k. subst T (sym (same b k)) (all-out (λ b. leb 2 (cover W H B m (place W i ⊞ b))) t k)))
     where
-      same : (b : Point) → List·Memᴰ b (times B n) → any (other W B m i (place W i ⊞ b)) (upTo (W * H)) ≡ leb 2 (cover m (place W i ⊞ b))
+      same : (b : Point) → List·Memᴰ b (times B n) → any (other W B m i (place W i ⊞ b)) (upTo (W * H)) ≡ leb 2 (cover W H B m (place W i ⊞ b))
       same b k = other-count m i (place W i ⊞ b) h (covers-own m i n q k)
 
   -- ---- the test by counters
 
-  -- the place of i dilated n times: what a point of size n there covers
-  abbrev pub spread : ℕ → ℕ → (Point → Bool)
-  spread n i = dilate (times B n) (λ y. samePoint y (place W i))
-
-  -- a point of size n at place i stays on the frame
-  abbrev pub Stays : ℕ → ℕ → Type 0
-  Stays n i = (b : Point) → List·Memᴰ b (times B n) → T (onFrame W H (place W i ⊞ b))
-
   -- on the way to size n nothing is clipped
-  pub spread-on : List·Memᴰ origin B → (n i k : ℕ) → Stays n i → k ≤ n → OnFrame W H (spread k i)
+  pub spread-on : List·Memᴰ origin B → (n i k : ℕ) → Stays W H B n i → k ≤ n → OnFrame W H (spread W B k i)
   spread-on ob n i k stay h = record {
     across = λ z t. and-l (inside W (z .x)) (inside H (z .y)) (frame z t);
     down = λ z t. and-r (inside W (z .x)) (inside H (z .y)) (frame z t);
   }
     where
-      frame : (z : Point) → T (spread k i z) → T (onFrame W H z)
+      frame : (z : Point) → T (spread W B k i z) → T (onFrame W H z)
       frame z t =
           let r = dilate-out (times B k) (λ y. samePoint y (place W i)) z t in
           subst (λ (y : Point). T (onFrame W H y)) (ap (λ (y : Point). y ⊞ r .1) (sym (same-eq (r .0) (place W i) (r .2))) ∙ sym (r .4))
           (stay (r .1) (times-mono B ob k n h (r .3)))
 
-  frame-place : (z : Point) → T (onFrame W H z) → (x : ℕ) × (x < W * H) × (z ≡ place W x)
+  pub frame-place : (z : Point) → T (onFrame W H z) → (x : ℕ) × (x < W * H) × (z ≡ place W x)
   unfolding places
   frame-place z t =
       let on : OnFrame W H (onFrame W H) = record { across = λ p u. and-l (inside W (p .x)) (inside H (p .y)) u; down = λ p u. and-r (inside W (p .x)) (inside H (p .y)) u } in
@@ -222,57 +195,57 @@ module _ (W H : ℕ) (B : List Point) where
 
   -- each place that the point covers counts two or more
   abbrev pub allTwice : ℕ → ℕ → List ℕ → Bool
-  allTwice n i c = all (λ x. not (spread n i (place W x)) || leb 2 (getD c x 0)) (upTo (W * H))
+  allTwice n i c = all (λ x. not (spread W B n i (place W x)) || leb 2 (getD c x 0)) (upTo (W * H))
 
-  pub redundant-counters : (m : List ℕ) (i n : ℕ) → i < W * H → getD m i 0 ≡ suc n → Stays n i → isRedundant W H B n m i ≡ allTwice n i (counts m)
+  pub redundant-counters : (m : List ℕ) (i n : ℕ) → i < W * H → getD m i 0 ≡ suc n → Stays W H B n i → isRedundant W H B n m i ≡ allTwice n i (counts W H B m)
   redundant-counters m i n h q stay = redundant-count m i n h q ∙ T-ext
       (λ t. all-in (λ x. not (D x) || two x) (upTo (W * H)) (λ x k. to t x (of-upTo (W * H) k) (decide (D x))))
-      (λ t. all-in (λ b. leb 2 (cover m (place W i ⊞ b))) (times B n) (λ b k. fro t b k))
+      (λ t. all-in (λ b. leb 2 (cover W H B m (place W i ⊞ b))) (times B n) (λ b k. fro t b k))
     where
       D : ℕ → Bool
-      D x = spread n i (place W x)
+      D x = spread W B n i (place W x)
 
       two : ℕ → Bool
-      two x = leb 2 (getD (counts m) x 0)
+      two x = leb 2 (getD (counts W H B m) x 0)
 
-      two-is : (x : ℕ) → x < W * H → two x ≡ leb 2 (cover m (place W x))
-      two-is x l = ap (leb 2) (getD-place W H (cover m) x l)
+      two-is : (x : ℕ) → x < W * H → two x ≡ leb 2 (cover W H B m (place W x))
+      two-is x l = ap (leb 2) (getD-place W H (cover W H B m) x l)
 
-      to : T (all (λ b. leb 2 (cover m (place W i ⊞ b))) (times B n)) → (x : ℕ) → x < W * H → T (D x) ⊎ T (not (D x)) → T (not (D x) || two x)
+      to : T (all (λ b. leb 2 (cover W H B m (place W i ⊞ b))) (times B n)) → (x : ℕ) → x < W * H → T (D x) ⊎ T (not (D x)) → T (not (D x) || two x)
       to t x l (inr u) = or-l (not (D x)) (two x) u
       to t x l (inl u) =
           let r = dilate-out (times B n) (λ y. samePoint y (place W i)) (place W x) u in
           let w : place W i ⊞ r .1 ≡ place W x = sym (r .4 ∙ ap (λ (y : Point). y ⊞ r .1) (same-eq (r .0) (place W i) (r .2))) in
           or-r (not (D x)) (two x)
-          (subst T (sym (two-is x l)) (subst (λ (y : Point). T (leb 2 (cover m y))) w (all-out (λ b. leb 2 (cover m (place W i ⊞ b))) t (r .3))))
+          (subst T (sym (two-is x l)) (subst (λ (y : Point). T (leb 2 (cover W H B m y))) w (all-out (λ b. leb 2 (cover W H B m (place W i ⊞ b))) t (r .3))))
 
-      fro : T (all (λ x. not (D x) || two x) (upTo (W * H))) → (b : Point) → List·Memᴰ b (times B n) → T (leb 2 (cover m (place W i ⊞ b)))
+      fro : T (all (λ x. not (D x) || two x) (upTo (W * H))) → (b : Point) → List·Memᴰ b (times B n) → T (leb 2 (cover W H B m (place W i ⊞ b)))
       fro t b k =
           let f = frame-place (place W i ⊞ b) (stay b k) in
           let x = f .0 in
           by x (f .1) (sym (f .2)) (or-out (not (D x)) (two x) (all-out (λ x. not (D x) || two x) t (in-upTo (W * H) x (f .1))))
         where
-          by : (x : ℕ) → x < W * H → place W x ≡ place W i ⊞ b → T (not (D x)) ⊎ T (two x) → T (leb 2 (cover m (place W i ⊞ b)))
-          by x l w (inr u) = subst (λ (y : Point). T (leb 2 (cover m y))) w (subst T (two-is x l) u)
+          by : (x : ℕ) → x < W * H → place W x ≡ place W i ⊞ b → T (not (D x)) ⊎ T (two x) → T (leb 2 (cover W H B m (place W i ⊞ b)))
+          by x l w (inr u) = subst (λ (y : Point). T (leb 2 (cover W H B m y))) w (subst T (two-is x l) u)
           by x l w (inl u) =
               absurd (T-not (D x) u
-              (subst (λ (y : Point). T (spread n i y)) (sym w) (dilate-in (times B n) (λ y. samePoint y (place W i)) (place W i) b (same-refl (place W i)) k)))
+              (subst (λ (y : Point). T (spread W B n i y)) (sym w) (dilate-in (times B n) (λ y. samePoint y (place W i)) (place W i) b (same-refl (place W i)) k)))
 
   -- the counters after a drop
   pub counters-drop : (m : List ℕ) (i n x : ℕ) → i < W * H → x < W * H → getD m i 0 ≡ suc n
-      → getD (counts (set m i 0)) x 0 ≡ getD (counts m) x 0 - digit (spread n i (place W x))
-  counters-drop m i n x h l q = counts-drop m i x h l ∙ ap (λ (b : Bool). getD (counts m) x 0 - digit b) (covers-dilate m i n (place W x) q)
+      → getD (counts W H B (set m i 0)) x 0 ≡ getD (counts W H B m) x 0 - digit (spread W B n i (place W x))
+  counters-drop m i n x h l q = counts-drop m i x h l ∙ ap (λ (b : Bool). getD (counts W H B m) x 0 - digit b) (covers-dilate m i n (place W x) q)
 
   -- ---- the walk
 
   -- a step by counters
-  pub drop-turn : (n i : ℕ) (m : List ℕ) → i < W * H → (getD m i 0 ≡ suc n → Stays n i)
-      → dropAt W H B n m i ≡ cond (eqb (getD m i 0) (suc n) && allTwice n i (counts m)) (set m i 0) m
+  pub drop-turn : (n i : ℕ) (m : List ℕ) → i < W * H → (getD m i 0 ≡ suc n → Stays W H B n i)
+      → dropAt W H B n m i ≡ cond (eqb (getD m i 0) (suc n) && allTwice n i (counts W H B m)) (set m i 0) m
   unfolding dropAt
   drop-turn n i m h stay = go (eqb (getD m i 0) (suc n)) refl
     where
       go : (b : Bool) → eqb (getD m i 0) (suc n) ≡ b
-          → cond (b && isRedundant W H B n m i) (set m i 0) m ≡ cond (b && allTwice n i (counts m)) (set m i 0) m
+          → cond (b && isRedundant W H B n m i) (set m i 0) m ≡ cond (b && allTwice n i (counts W H B m)) (set m i 0) m
       go true e = let q = eqb→eq (getD m i 0) (suc n) (subst T (sym e) tt) in ap (λ (b : Bool). cond b (set m i 0) m) (redundant-counters m i n h q (stay q))
       go false e = refl
 

@@ -1,0 +1,87 @@
+-- `minimal::covers::move_row` meets its contract.
+use mathlib.Core.Bool.{Bool}
+use Prim.Native.Nat.{_*_, _+_, _-_, _≤_, ℕ}
+use native.Mathlib.Omega.{arith}
+use denote.Ref.{now}
+use lib.ListN.{getD}
+use Rattle.morphology.specs.Image.{bitOf}
+use Rattle.raster.specs.Rows.{rowBit}
+use Rattle.minimal.specs.Moves.{Moved, below, hits}
+use Rattle.minimal.proofs.MoveLaws.{moved-end, moved-more, moved-start, open-part}
+use Rattle.minimal.proofs.PixelLaws.{byte-of}
+use Rattle.minimal.proofs.covers.move_row.Statement.{statement}
+use Rattle.minimal.proofs.covers.move_row.Tie as tie
+
+abbrev Inv-loop : tie.InvT-loop
+Inv-loop up plane d r at a counters₀ j₀ counters j = (j ≤ r) × Moved up (hits (below (8 * j) (λ k. rowBit plane (8 * d + k))) at a) counters₀ counters
+
+abbrev μ-loop : tie.MeasureT-loop
+μ-loop up plane d r at a counters₀ j₀ counters j = r - j
+
+loop-holds : tie.Need-loop-holds Inv-loop μ-loop
+loop-holds c = let a = c .before .before .args in (omega arith, moved-start (a .up) (λ k. rowBit (now (a .plane)) (8 * a .d + k)) (a .at) (a .a) (now (a .counters)))
+
+add-move-byte : tie.Need-add-move-byte Inv-loop μ-loop
+add-move-byte c = omega (arith, c .before .before .before .before .pre .2)
+
+shared-slice-read-move-byte : tie.Need-shared-slice-read-move-byte Inv-loop μ-loop
+shared-slice-read-move-byte c = omega (arith, c .before .before .before .before .before .pre .2)
+
+mul-move-byte : tie.Need-mul-move-byte Inv-loop μ-loop
+mul-move-byte c = omega (arith, c .before .before .before .before .before .pre .1)
+
+add-move-byte-2 : tie.Need-add-move-byte-2 Inv-loop μ-loop
+add-move-byte-2 c = let s = c .before .before .before .before .before in omega (arith, s .pre .0, s .pre .1)
+
+move-byte-requires : tie.Need-move-byte-requires Inv-loop μ-loop
+move-byte-requires c κs =
+    let s = c .before .before .before .before .before .before in
+    let a = s .args in
+    let l = c .before .before .before .loop in
+    let F : ℕ → Bool = λ k. rowBit (now (a .plane)) (8 * a .d + k) in (
+      omega (arith, s .pre .0, s .pre .1, c .before .before .loop-test .taken),
+      open-part F (bitOf (getD (now (a .plane)) (a .d + l .j) 0)) (a .at) (8 * l .j) 8 (a .a) (byte-of (now (a .plane)) (a .d) (l .j)) (a .up) (8 * a .r) (now (a .counters)) (l .counters) (omega (arith, c .before .before .loop-test .taken)) (s .pre .3) (l .inv .1),
+    )
+
+add-j : tie.Need-add-j Inv-loop μ-loop
+add-j c = omega (arith, c .before .before .before .before .before .loop-test .taken)
+
+loop-less : tie.Need-loop-less Inv-loop μ-loop
+loop-less c = omega (arith, c .before .before .before .before .before .loop-test .taken)
+
+loop-again : tie.Need-loop-again Inv-loop μ-loop
+loop-again c =
+    let a = c .before .before .before .before .before .before .before .before .before .args in
+    let l = c .before .before .before .before .before .before .loop in
+    let F : ℕ → Bool = λ k. rowBit (now (a .plane)) (8 * a .d + k) in (
+      omega (arith, c .before .before .before .before .before .loop-test .taken),
+      moved-end (a .up) F (a .at) (a .a) (8 * l .j + 8) (8 * (l .j + 1)) (now (a .counters)) _ (omega arith)
+          (moved-more F (bitOf (getD (now (a .plane)) (a .d + l .j) 0)) (a .at) (8 * l .j) 8 (a .a) (byte-of (now (a .plane)) (a .d) (l .j)) (a .up) (now (a .counters)) (l .counters) _ (l .inv .1) (c .before .before .move-byte .ensures)),
+    )
+
+same-length : tie.Need-same-length Inv-loop μ-loop
+same-length c = c .before .loop .inv .1 .size
+
+returns : tie.Need-returns Inv-loop μ-loop
+returns c =
+    let a = c .before .before .before .before .args in
+    let l = c .before .loop in
+    moved-end (a .up) (λ k. rowBit (now (a .plane)) (8 * a .d + k)) (a .at) (a .a) (8 * l .j) (8 * a .r) (now (a .counters)) (l .counters) (omega (arith, l .inv .0, c .loop-test .left)) (l .inv .1)
+
+pub move-row-spec : {M : Type 1} → statement M
+move-row-spec =
+    tie.close
+    (tie.spec
+    Inv-loop
+    μ-loop
+    loop-holds
+    add-move-byte
+    shared-slice-read-move-byte
+    mul-move-byte
+    add-move-byte-2
+    move-byte-requires
+    add-j
+    loop-less
+    loop-again
+    same-length
+    returns)

@@ -1,0 +1,57 @@
+-- Minimisation size by size: the plane of a size, the counters on the way up. Definitions only; proofs/SizeLaws.antt and CountingLaws.antt have the laws.
+use mathlib.Core.Bool.{Bool, _&&_, _||_}
+use mathlib.Core.List.{List}
+use mathlib.Core.Path.{_≡_}
+use Prim.Native.Nat.{_*_, _+_, _<_, _≤_, ℕ}
+use lib.Dec.{T, eqb, leb, ltb}
+use lib.ListN.{drop, getD, length}
+use Rattle.morphology.specs.Element.{isElement, offsets}
+use Rattle.morphology.specs.Image.{imageSet, isClean}
+use Rattle.morphology.specs.Labels.{raster}
+use Rattle.morphology.specs.Lists.{count, greatest, upTo}
+use Rattle.morphology.specs.Minimal.{covers}
+use Rattle.morphology.specs.Point.{Point}
+use Rattle.steps.specs.Steps.{Sheet}
+use Rattle.minimal.specs.Covers.{AllStay, Stays, spread}
+
+-- the first plane of work is what a point of size n at place a covers
+pub record Shape (W H r p : ℕ) (B : List Point) (n a : ℕ) (work : List ℕ) : Type 0 where
+  pub sheet : Sheet W H r p
+  pub planes : 2 * p ≤ length work
+  pub clean : T (isClean W H work)
+  pub set : imageSet W H work ≡ spread W B n a
+  pub stays : Stays W H B n a
+
+-- a map whose points stay on the frame, and counters for it
+pub record Tame (W H : ℕ) (B : List Point) (m : List ℕ) : Type 0 where
+  pub places : length m ≡ W * H
+  pub few : W * H ≤ 65025
+  pub stays : AllStay W H B m
+
+-- a map, a place a of its largest label, and work: minimisation can begin
+pub record Begun (W H r p e a top : ℕ) (m work : List ℕ) : Type 0 where
+  pub sheet : Sheet W H r p
+  pub planes : 2 * p ≤ length work
+  pub element : T (isElement e)
+  pub tame : Tame W H (offsets e) m
+  pub place : a < W * H
+  pub label : getD m a 0 ≡ top
+  pub largest : greatest m ≡ top
+  pub byte : top ≤ 255
+
+-- from its third plane on work is as it was
+pub record Left (p : ℕ) (old new : List ℕ) : Type 0 where
+  pub size : length new ≡ length old
+  pub rest : drop (2 * p) new ≡ drop (2 * p) old
+
+-- counted before place i of size n: a smaller size, or a place before
+abbrev pub before : List ℕ → ℕ → ℕ → ℕ → Bool
+before m n i j = leb (getD m j 0) n || (eqb (getD m j 0) (n + 1) && ltb j i)
+
+-- how many of those cover z
+unfoldable pub coverTo : ℕ → ℕ → List Point → List ℕ → ℕ → ℕ → Point → ℕ
+coverTo W H B m n i z = count (λ j. before m n i j && covers W B m z j) (upTo (W * H))
+
+-- the counters then
+abbrev pub Counting : ℕ → ℕ → List Point → List ℕ → ℕ → ℕ → List ℕ → Type 0
+Counting W H B m n i c = c ≡ raster W H (coverTo W H B m n i)

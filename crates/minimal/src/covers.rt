@@ -1,0 +1,192 @@
+ghost use mathlib.Core.Path.{_≡_};
+ghost use mathlib.Core.Bool.{true};
+ghost use Prim.Native.Nat.{_+_, _*_, _-_, _<_, _≤_, _^_};
+ghost use lib.Dec.{T};
+ghost use lib.ListN.{length};
+ghost use Rattle.morphology.specs.Image.{bitOf};
+ghost use Rattle.raster.specs.Rows.{rowBit};
+ghost use Rattle.minimal.specs.Bands.{Banded, inkAt, Blank};
+ghost use Rattle.minimal.specs.Moves.{below, hits, Within, counted, Free, Open, Moved, Twice, Tells};
+
+// Whether pixel k of a byte is foreground.
+fn bit(b: u8, k: usize) -> bool
+    requires { ⌜ k < 8 ⌝ }
+    ensures { λ r. ⌜ r ≡ bitOf b k ⌝ }
+{
+    (b >> ((7 - k) as u32)) % 2 == 1
+}
+
+// A counter one up or one down.
+fn next(up: bool, v: u16) -> u16
+    requires { ⌜ Free up v ⌝ }
+    ensures { λ r. ⌜ r ≡ counted up true v ⌝ }
+{
+    if up {
+        return v + 1;
+    }
+    v - 1
+}
+
+// The counter of a pixel that is moved from a to at, where it is foreground.
+fn move_pixel(up: bool, ink: bool, at: usize, a: usize, counters: &mut [u16])
+    requires { ⌜ Open up (below 1 (λ _. ink)) at a (now counters) ⌝ }
+    ensures { λ _. ⌜ Moved up (hits (below 1 (λ _. ink)) at a) (now (counters .entry)) (now (counters .exit)) ⌝ }
+{
+    if ink {
+        let x = at - a;
+        counters[x] = next(up, counters[x]);
+    }
+}
+
+// The counters of a byte's eight pixels.
+fn move_byte(up: bool, b: u8, at: usize, a: usize, counters: &mut [u16])
+    requires { ⌜ (at < 2 ^ 32) × Open up (below 8 (bitOf b)) at a (now counters) ⌝ }
+    ensures { λ _. ⌜ Moved up (hits (below 8 (bitOf b)) at a) (now (counters .entry)) (now (counters .exit)) ⌝ }
+{
+    if b == 0 {
+        return;
+    }
+    let mut k: usize = 0;
+    while k < 8 {
+        move_pixel(up, bit(b, k), at + k, a, counters);
+        k = k + 1;
+    }
+}
+
+// The counters of a row's pixels: the r bytes at d.
+fn move_row(up: bool, plane: &[u8], d: usize, r: usize, at: usize, a: usize, counters: &mut [u16])
+    requires { ⌜ (at < 2 ^ 31) × (r ≤ 128) × (d + r ≤ length (now plane)) × Open up (below (8 * r) (λ k. rowBit (now plane) (8 * d + k))) at a (now counters) ⌝ }
+    ensures { λ _. ⌜ Moved up (hits (below (8 * r) (λ k. rowBit (now (plane .entry)) (8 * d + k))) at a) (now (counters .entry)) (now (counters .exit)) ⌝ }
+{
+    let mut j: usize = 0;
+    while j < r {
+        move_byte(up, plane[d + j], at + 8 * j, a, counters);
+        j = j + 1;
+    }
+}
+
+// The counters of a plane's pixels, moved from a to i, up or down.
+pub fn move_cover(
+    up: bool,
+    plane: &[u8],
+    w: usize,
+    h: usize,
+    r: usize,
+    above: usize,
+    under: usize,
+    a: usize,
+    i: usize,
+    counters: &mut [u16],
+)
+    requires { ⌜ Banded w h r above under (now plane) × (i < 2 ^ 30) × Open up (below (w * h) (inkAt w h (now plane))) i a (now counters) ⌝ }
+    ensures { λ _. ⌜ Moved up (hits (below (w * h) (inkAt w h (now (plane .entry)))) i a) (now (counters .entry)) (now (counters .exit)) ⌝ }
+{
+    let end = h - under;
+    let mut y = above;
+    while y < end {
+        move_row(up, plane, y * r, r, i + y * w, a, counters);
+        y = y + 1;
+    }
+}
+
+// Whether the counter of a pixel that is moved from a to at is two or more, where it is foreground.
+fn pixel_is_twice(ink: bool, at: usize, a: usize, counters: &[u16]) -> bool
+    requires { ⌜ Within (below 1 (λ _. ink)) at a (length (now counters)) ⌝ }
+    ensures { λ t. ⌜ Tells t (Twice (below 1 (λ _. ink)) at a (now (counters .entry))) ⌝ }
+{
+    if ink {
+        return counters[at - a] >= 2;
+    }
+    true
+}
+
+// Whether the counters of a byte's eight pixels are.
+fn byte_is_twice(b: u8, at: usize, a: usize, counters: &[u16]) -> bool
+    requires { ⌜ (at < 2 ^ 32) × Within (below 8 (bitOf b)) at a (length (now counters)) ⌝ }
+    ensures { λ t. ⌜ Tells t (Twice (below 8 (bitOf b)) at a (now (counters .entry))) ⌝ }
+{
+    if b == 0 {
+        return true;
+    }
+    let mut k: usize = 0;
+    while k < 8 {
+        if !pixel_is_twice(bit(b, k), at + k, a, counters) {
+            return false;
+        }
+        k = k + 1;
+    }
+    true
+}
+
+// Whether those of a row's pixels are.
+fn row_is_twice(plane: &[u8], d: usize, r: usize, at: usize, a: usize, counters: &[u16]) -> bool
+    requires { ⌜ (at < 2 ^ 31) × (r ≤ 128) × (d + r ≤ length (now plane)) × Within (below (8 * r) (λ k. rowBit (now plane) (8 * d + k))) at a (length (now counters)) ⌝ }
+    ensures { λ t. ⌜ Tells t (Twice (below (8 * r) (λ k. rowBit (now (plane .entry)) (8 * d + k))) at a (now (counters .entry))) ⌝ }
+{
+    let mut j: usize = 0;
+    while j < r {
+        if !byte_is_twice(plane[d + j], at + 8 * j, a, counters) {
+            return false;
+        }
+        j = j + 1;
+    }
+    true
+}
+
+// Whether the counters of a plane's pixels, moved from a to i, are two or more.
+pub fn is_twice(
+    plane: &[u8],
+    w: usize,
+    h: usize,
+    r: usize,
+    above: usize,
+    under: usize,
+    a: usize,
+    i: usize,
+    counters: &[u16],
+) -> bool
+    requires { ⌜ Banded w h r above under (now plane) × (i < 2 ^ 30) × Within (below (w * h) (inkAt w h (now plane))) i a (length (now counters)) ⌝ }
+    ensures { λ t. ⌜ Tells t (Twice (below (w * h) (inkAt w h (now (plane .entry)))) i a (now (counters .entry))) ⌝ }
+{
+    let end = h - under;
+    let mut y = above;
+    while y < end {
+        if !row_is_twice(plane, y * r, r, i + y * w, a, counters) {
+            return false;
+        }
+        y = y + 1;
+    }
+    true
+}
+
+// The blank rows at the top of a plane.
+pub fn blank_above(plane: &[u8], h: usize, r: usize) -> usize
+    requires { ⌜ h * r ≤ length (now plane) ⌝ }
+    ensures { λ y. ⌜ (y ≤ h) × Blank 0 (y * r) (now (plane .entry)) ⌝ }
+{
+    let mut y: usize = 0;
+    while y < h {
+        let d = y * r;
+        if raster::has_ink(&plane[d..d + r]) {
+            return y;
+        }
+        y = y + 1;
+    }
+    h
+}
+
+// The blank rows at its bottom, below the rows above.
+pub fn blank_under(plane: &[u8], h: usize, r: usize, above: usize) -> usize
+    requires { ⌜ (h * r ≤ length (now plane)) × (above ≤ h) ⌝ }
+    ensures { λ y. ⌜ (above + y ≤ h) × Blank ((h - y) * r) (h * r) (now (plane .entry)) ⌝ }
+{
+    let mut y: usize = 0;
+    while y < h - above {
+        let d = (h - 1 - y) * r;
+        if raster::has_ink(&plane[d..d + r]) {
+            return y;
+        }
+        y = y + 1;
+    }
+    y
+}

@@ -1,0 +1,162 @@
+use crate::covers;
+ghost use mathlib.Core.Path.{_≡_};
+ghost use mathlib.Core.Bool.{true, cond, not, _&&_};
+ghost use Prim.Native.Nat.{_+_, _*_, _<_, _≤_, _^_, max};
+ghost use lib.Dec.{eqb};
+ghost use lib.ListN.{length, getD, replicate};
+ghost use Rattle.morphology.specs.Element.{offsets};
+ghost use Rattle.morphology.specs.Image.{imageSet, clip};
+ghost use Rattle.morphology.specs.Labels.{pointsOf};
+ghost use Rattle.morphology.specs.Lists.{greatest};
+ghost use Rattle.morphology.specs.Morphology.{dilate};
+ghost use Rattle.planes.specs.Frames.{Frame};
+ghost use Rattle.steps.specs.Steps.{First};
+ghost use Rattle.minimal.specs.Bands.{Banded, inkAt};
+ghost use Rattle.minimal.specs.Covers.{single, counts};
+ghost use Rattle.minimal.specs.Moves.{below, hits, Open, Moved};
+ghost use Rattle.minimal.specs.Sizes.{Shape, Tame, Counting, Begun, Left};
+
+// Counts up the cover of place i, where it has a point of size n: the plane's pixels moved from a to i.
+fn count_at(
+    w: usize,
+    h: usize,
+    r: usize,
+    above: usize,
+    under: usize,
+    a: usize,
+    n: usize,
+    i: usize,
+    labels: &[u8],
+    plane: &[u8],
+    counters: &mut [u16],
+)
+    requires { ⌜ Banded w h r above under (now plane) × (i < length (now labels)) × (i < 2 ^ 30) × (n < 2 ^ 30) × (getD (now labels) i 0 ≡ n + 1 → Open true (below (w * h) (inkAt w h (now plane))) i a (now counters)) ⌝ }
+    ensures { λ _. ⌜ Moved true (λ x. eqb (getD (now (labels .entry)) i 0) (n + 1) && hits (below (w * h) (inkAt w h (now (plane .entry)))) i a x) (now (counters .entry)) (now (counters .exit)) ⌝ }
+{
+    if labels[i] as usize == n + 1 {
+        covers::move_cover(true, plane, w, h, r, above, under, a, i, counters);
+    }
+}
+
+// Counts up the covers of all points of size n, and dilates the plane to the next size.
+fn count_size(
+    w: usize,
+    h: usize,
+    r: usize,
+    p: usize,
+    element: u32,
+    a: usize,
+    n: usize,
+    labels: &[u8],
+    work: &mut [u8],
+    counters: &mut [u16],
+)
+    requires { ⌜ Shape w h r p (offsets element) n a (now work) × Tame w h (offsets element) (now labels) × (n < 255) × Counting w h (offsets element) (now labels) n 0 (now counters) ⌝ }
+    ensures counters { λ _. ⌜ Counting w h (offsets element) (now (labels .entry)) (n + 1) 0 (now (counters .exit)) ⌝ }
+    ensures work { λ _. ⌜ First w h p (clip w h (dilate (offsets element) (imageSet w h (now (work .entry))))) (now (work .entry)) (now (work .exit)) ⌝ }
+{
+    let above = covers::blank_above(&work[..p], h, r);
+    let under = covers::blank_under(&work[..p], h, r, above);
+    let mut i: usize = 0;
+    while i < labels.len() {
+        count_at(w, h, r, above, under, a, n, i, labels, &work[..p], counters);
+        i = i + 1;
+    }
+    steps::dilate_step(w, h, r, p, element, work);
+}
+
+// The first plane emptied but for the pixel of place a.
+pub fn mark(w: usize, h: usize, r: usize, a: usize, work: &mut [u8])
+    requires { ⌜ Frame w h r × (h * r ≤ length (now work)) × (a < w * h) ⌝ }
+    ensures { λ _. ⌜ First w h (h * r) (single w a) (now (work .entry)) (now (work .exit)) ⌝ }
+{
+    let p = h * r;
+    raster::fill(&mut work[..p], 0);
+    let x = a % w;
+    work[a / w * r + x / 8] = 128u8 >> ((x % 8) as u32);
+}
+
+// The place of the larger of two labels.
+fn taller(labels: &[u8], a: usize, i: usize) -> usize
+    requires { ⌜ (a < length (now labels)) × (i < length (now labels)) ⌝ }
+    ensures { λ b. ⌜ (b < length (now (labels .entry))) × (getD (now (labels .entry)) b 0 ≡ max (getD (now (labels .entry)) a 0) (getD (now (labels .entry)) i 0)) ⌝ }
+{
+    if labels[a] < labels[i] {
+        return i;
+    }
+    a
+}
+
+// A place of the largest label.
+pub fn tallest(labels: &[u8]) -> usize
+    requires { ⌜ 0 < length (now labels) ⌝ }
+    ensures { λ a. ⌜ (a < length (now (labels .entry))) × (getD (now (labels .entry)) a 0 ≡ greatest (now (labels .entry))) ⌝ }
+{
+    let mut a: usize = 0;
+    let mut i: usize = 0;
+    while i < labels.len() {
+        a = taller(labels, a, i);
+        i = i + 1;
+    }
+    a
+}
+
+// Each counter becomes 0.
+pub fn clear(counters: &mut [u16])
+    ensures { λ _. ⌜ now (counters .exit) ≡ replicate (length (now (counters .entry))) 0 ⌝ }
+{
+    let mut i: usize = 0;
+    while i < counters.len() {
+        counters[i] = 0;
+        i = i + 1;
+    }
+}
+
+fn one_if_point(label: u8) -> u32
+    ensures { λ r. ⌜ r ≡ cond (not (eqb label 0)) 1 0 ⌝ }
+{
+    if label != 0 {
+        return 1;
+    }
+    0
+}
+
+// The number of points.
+pub fn points_of(labels: &[u8]) -> u32
+    requires { ⌜ length (now labels) < 2 ^ 32 ⌝ }
+    ensures { λ n. ⌜ n ≡ pointsOf (now (labels .entry)) ⌝ }
+{
+    let mut n: u32 = 0;
+    let mut i: usize = 0;
+    while i < labels.len() {
+        n = n + one_if_point(labels[i]);
+        i = i + 1;
+    }
+    n
+}
+
+// Counts how often each place is covered, from the smallest size to the largest.
+pub fn count_up(
+    w: usize,
+    h: usize,
+    r: usize,
+    p: usize,
+    element: u32,
+    a: usize,
+    top: usize,
+    labels: &[u8],
+    work: &mut [u8],
+    counters: &mut [u16],
+)
+    requires { ⌜ Begun w h r p element a top (now labels) (now work) × (length (now counters) ≡ w * h) ⌝ }
+    ensures counters { λ _. ⌜ now (counters .exit) ≡ counts w h (offsets element) (now (labels .entry)) ⌝ }
+    ensures work { λ _. ⌜ Left p (now (work .entry)) (now (work .exit)) ⌝ }
+{
+    clear(counters);
+    mark(w, h, r, a, work);
+    let mut n: usize = 0;
+    while n < top {
+        count_size(w, h, r, p, element, a, n, labels, work, counters);
+        n = n + 1;
+    }
+}

@@ -1,0 +1,94 @@
+use crate::covers;
+use crate::sizes;
+ghost use mathlib.Core.Path.{_≡_};
+ghost use Prim.Native.Nat.{_+_, _*_, _<_, _≤_, _^_};
+ghost use lib.ListN.{length, getD};
+ghost use Rattle.morphology.specs.Element.{offsets};
+ghost use Rattle.morphology.specs.Image.{imageSet, clip};
+ghost use Rattle.morphology.specs.Minimal.{minimalLabels};
+ghost use Rattle.morphology.specs.Morphology.{dilate};
+ghost use Rattle.steps.specs.Steps.{First};
+ghost use Rattle.minimal.specs.Bands.{Banded, inkAt};
+ghost use Rattle.minimal.specs.Covers.{counts};
+ghost use Rattle.minimal.specs.Moves.{below, Within};
+ghost use Rattle.minimal.specs.Sizes.{Shape, Tame, Begun, Left};
+ghost use Rattle.minimal.specs.Walks.{Stepped, Walked};
+
+// Drops the point of size n at place i, where each place of its cover counts two or more, and counts its cover down.
+fn step(
+    w: usize,
+    h: usize,
+    r: usize,
+    above: usize,
+    under: usize,
+    a: usize,
+    n: usize,
+    i: usize,
+    labels: &mut [u8],
+    plane: &[u8],
+    counters: &mut [u16],
+)
+    requires { ⌜ Banded w h r above under (now plane) × (i < length (now labels)) × (i < 2 ^ 30) × (n < 2 ^ 30) × (getD (now labels) i 0 ≡ n + 1 → Within (below (w * h) (inkAt w h (now plane))) i a (length (now counters))) ⌝ }
+    ensures { λ _. ⌜ Stepped w h n a i (now (plane .entry)) (now (labels .entry)) (now (counters .entry)) (now (labels .exit)) (now (counters .exit)) ⌝ }
+{
+    if labels[i] as usize != n + 1 {
+        return;
+    }
+    if !covers::is_twice(plane, w, h, r, above, under, a, i, &counters[..]) {
+        return;
+    }
+    labels[i] = 0;
+    covers::move_cover(false, plane, w, h, r, above, under, a, i, counters);
+}
+
+// Walks the points of size n, place by place, and dilates the plane to the next size.
+fn walk_size(
+    w: usize,
+    h: usize,
+    r: usize,
+    p: usize,
+    element: u32,
+    a: usize,
+    n: usize,
+    labels: &mut [u8],
+    work: &mut [u8],
+    counters: &mut [u16],
+)
+    requires { ⌜ Shape w h r p (offsets element) n a (now work) × Tame w h (offsets element) (now labels) × (n < 255) × (now counters ≡ counts w h (offsets element) (now labels)) ⌝ }
+    ensures walk { λ _. ⌜ Walked w h (offsets element) n (now (labels .entry)) (now (labels .exit)) (now (counters .exit)) ⌝ }
+    ensures work { λ _. ⌜ First w h p (clip w h (dilate (offsets element) (imageSet w h (now (work .entry))))) (now (work .entry)) (now (work .exit)) ⌝ }
+{
+    let above = covers::blank_above(&work[..p], h, r);
+    let under = covers::blank_under(&work[..p], h, r, above);
+    let mut i: usize = 0;
+    while i < labels.len() {
+        step(w, h, r, above, under, a, n, i, labels, &work[..p], counters);
+        i = i + 1;
+    }
+    steps::dilate_step(w, h, r, p, element, work);
+}
+
+// Walks the sizes, from the smallest to the largest.
+pub fn walk(
+    w: usize,
+    h: usize,
+    r: usize,
+    p: usize,
+    element: u32,
+    a: usize,
+    top: usize,
+    labels: &mut [u8],
+    work: &mut [u8],
+    counters: &mut [u16],
+)
+    requires { ⌜ Begun w h r p element a top (now labels) (now work) × (now counters ≡ counts w h (offsets element) (now labels)) ⌝ }
+    ensures labels { λ _. ⌜ now (labels .exit) ≡ minimalLabels w h (offsets element) (now (labels .entry)) ⌝ }
+    ensures work { λ _. ⌜ Left p (now (work .entry)) (now (work .exit)) ⌝ }
+{
+    sizes::mark(w, h, r, a, work);
+    let mut n: usize = 0;
+    while n < top {
+        walk_size(w, h, r, p, element, a, n, labels, work, counters);
+        n = n + 1;
+    }
+}
