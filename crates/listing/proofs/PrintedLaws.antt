@@ -1,5 +1,5 @@
 -- The program: what it prints fits its buffer, and depends on no byte past the longest input.
-use mathlib.Core.Bool.{Bool, _||_, cond, false, not, true}
+use mathlib.Core.Bool.{Bool, cond, false, not, true}
 use mathlib.Core.List.{List, [], _∷_}
 use mathlib.Core.Path.{_∙_, _≡_, ap, ap₂, refl, sym}
 use Prim.Native.Nat.{_*_, _+_, _-_, _/_, _<_, _≤_, max, suc, zero, zero-le, ℕ}
@@ -7,7 +7,7 @@ use native.Mathlib.Decide.{decLt}
 use native.Mathlib.Nat.{mul-le-mul, not-suc-le-zero}
 use native.Mathlib.Omega.{arith}
 use borrow.Author.Tests.{le-ltb, lt-ltb, ne-eqb}
-use lib.Dec.{T, eqb, leb, leb→le, ltb}
+use lib.Dec.{T, eqb, leb, leb→le}
 use lib.ListN.{drop, getD, length, length-drop, length-replicate, replicate, take}
 use lib.Seq.{getD-take, length-take-le, take-all}
 use Rattle.morphology.specs.Answers.{Answer, Outcome, outcome}
@@ -25,7 +25,7 @@ use Rattle.morphology.proofs.RefusalLaws.{first-out, or-hit}
 use Rattle.morphology.proofs.SkeletonLaws.{label-le}
 use Rattle.morphology.proofs.TestLaws.{and-l, and-r}
 use Rattle.planes.proofs.SideLaws.{sides-of}
-use Rattle.listing.specs.Printed.{answerText, longest, noSize, numberAt, outcomeText, printed, refusalText, taken}
+use Rattle.listing.specs.Printed.{answerText, enough, longest, noSize, numberAt, outcomeText, printed, refusalText, taken}
 use Rattle.listing.specs.Text.{decimal}
 use Rattle.listing.proofs.LengthLaws.{refusal-length, skeleton-length, three-digits}
 
@@ -167,6 +167,17 @@ printed-long input l =
     let H = getD input 1 0 in
     ap (λ (b : Bool). cond b (refusalText 3) (outcomeText W H (taken W H (numberAt input 2) (drop 6 input)))) (le-ltb (length input) 6 l)
 
+-- what is printed fits the buffer
+pub printed-fits : (input : List ℕ) → getD input 0 0 < 256 → getD input 1 0 < 256 → length (printed input) ≤ longest
+printed-fits input a b = by (decLt (length input) 6)
+  where
+    by : Dec (length input < 6) → length (printed input) ≤ longest
+    by (yes l) = omega (arith, ap length (printed-short input l), refusal-length 3 (omega arith))
+    by (no l) =
+        let W = getD input 0 0 in
+        let H = getD input 1 0 in
+        omega (arith, ap length (printed-long input (omega arith)), outcome-fits W H (numberAt input 2) (drop 6 input) (sizes W H a b))
+
 -- the image, lent as a part of k bytes
 pub printed-part : (input : List ℕ) (k e : ℕ) → 6 ≤ length input → k ≡ length input - 6 → e ≡ numberAt input 2
     → outcomeText (getD input 0 0) (getD input 1 0) (taken (getD input 0 0) (getD input 1 0) e (take k (drop 6 input))) ≡ printed input
@@ -177,27 +188,27 @@ printed-part input k e l p q =
     ∙ sym (printed-long input l)
 
 -- no byte past the longest input and one more changes what is printed: so many are enough to read
-pub printed-enough : (input : List ℕ) → getD input 0 0 < 256 → getD input 1 0 < 256 → printed (take 8167 input) ≡ printed input
-printed-enough input a b = by (decLt 8167 (length input))
+pub printed-enough : (input : List ℕ) → getD input 0 0 < 256 → getD input 1 0 < 256 → printed (take enough input) ≡ printed input
+printed-enough input a b = by (decLt enough (length input))
   where
     read : List ℕ
-    read = take 8167 input
+    read = take enough input
 
     text : ℕ → ℕ → ℕ → List ℕ
     text W H e = refusalText (firstRefusal (tooLong W H e))
 
-    long : (s : List ℕ) → getD s 0 0 < 256 → getD s 1 0 < 256 → 8166 < length s → printed s ≡ text (getD s 0 0) (getD s 1 0) (numberAt s 2)
+    long : (s : List ℕ) → getD s 0 0 < 256 → getD s 1 0 < 256 → enough ≤ length s → printed s ≡ text (getD s 0 0) (getD s 1 0) (numberAt s 2)
     long s p q l =
         printed-long s (omega arith) ∙ long-text (getD s 0 0) (getD s 1 0) (numberAt s 2) (drop 6 s)
         (let z = sizes (getD s 0 0) (getD s 1 0) p q in omega (arith, length-drop 6 s, plane-is (getD s 0 0) (getD s 1 0)))
 
-    same : (i : ℕ) → i < 8167 → getD read i 0 ≡ getD input i 0
-    same i l = getD-take 8167 input i 0 l
+    same : (i : ℕ) → i < enough → getD read i 0 ≡ getD input i 0
+    same i l = getD-take enough input i 0 l
 
-    by : Dec (8167 < length input) → printed read ≡ printed input
-    by (no d) = ap printed (take-all 8167 input (omega arith))
+    by : Dec (enough < length input) → printed read ≡ printed input
+    by (no d) = ap printed (take-all enough input (omega arith))
     by (yes d) =
-        let n : length read ≡ 8167 = length-take-le 8167 input (omega arith) in
+        let n : length read ≡ enough = length-take-le enough input (omega arith) in
         let e : numberAt read 2 ≡ numberAt input 2 = omega (arith, same 2 (omega arith), same 3 (omega arith), same 4 (omega arith), same 5 (omega arith)) in
         let s0 = same 0 (omega arith) in
         let s1 = same 1 (omega arith) in

@@ -52,6 +52,10 @@ printed input =
     let H = getD input 1 0 in
     cond (ltb (length input) 6) (refusalText 3) (outcomeText W H (taken W H (numberAt input 2) (drop 6 input)))
 
--- the largest output: "255 255 65025 254" and 255 times 255 labels of three digits, each with what ends it
+-- the largest output (`printed-fits`): "255 255 65025 254" and 255 times 255 labels of three digits, each with what ends it
 abbrev pub longest : ℕ
 longest = 18 + 255 * 255 * 4
+
+-- bytes that are enough to read: one more than the longest input has (`printed-enough`)
+abbrev pub enough : ℕ
+enough = 6 + 255 * 32 + 1

@@ -3,7 +3,7 @@ mod answer;
 mod text;
 
 ghost use mathlib.Core.Path.{_≡_};
-ghost use Prim.Native.Nat.{_+_, _*_, _≤_};
+ghost use Prim.Native.Nat.{_+_, _*_};
 ghost use lib.ListN.{length, replicate};
 ghost use Rattle.morphology.specs.Image.{planeBytes};
 ghost use Rattle.listing.specs.Appended.{Appended, Listed, Room};
