@@ -41,7 +41,7 @@ fn same(a: u8, b: u8) -> u8
 }
 
 // Whether a label of the row is v.
-fn has_label(row: &[u8], v: u8) -> bool
+pub fn has_label(row: &[u8], v: u8) -> bool
     ensures { λ r. ⌜ r ≡ any (λ b. eqb b v) (now (row .entry)) ⌝ }
 {
     let mut seen: u8 = 0;

@@ -191,6 +191,9 @@ module _ (F g : ℕ → Bool) (at o m a : ℕ) (e : (k : ℕ) → k < m → g k 
           let z : at + o + (k - o) - a ≡ at + k - a = omega arith in
           subst (λ (x : ℕ). 2 ≤ getD c x 0) z (q (k - o) (subst T (more-in k i) t))
 
+  pub twice-first : (c : List ℕ) → Twice (below (o + m) F) at a c → Twice (below o F) at a c
+  twice-first c w k t = w k (subst T (sym (more-below k (below-lt o F k t))) t)
+
   pub twice-part : (N : ℕ) (c : List ℕ) → o + m ≤ N → Twice (below N F) at a c → Twice (below m g) (at + o) a c
   twice-part N c h w k t =
       let z : at + (o + k) - a ≡ at + o + k - a = omega arith in
@@ -205,6 +208,9 @@ pixel-of F o ink e k h = let z : o ≡ o + k = omega arith in e ∙ ap F z
 pub moved-end : (up : Bool) (F : ℕ → Bool) (at a o N : ℕ) (c u : List ℕ) → o ≡ N → Moved up (hits (below o F) at a) c u → Moved up (hits (below N F) at a) c u
 moved-end up F at a o N c u e p = subst (λ (n : ℕ). Moved up (hits (below n F) at a) c u) e p
 
+pub moved-as : (up : Bool) (F G : ℕ → Bool) (at a n : ℕ) (c u : List ℕ) → F ≡ G → Moved up (hits (below n F) at a) c u → Moved up (hits (below n G) at a) c u
+moved-as up F G at a n c u e p = subst (λ (f : ℕ → Bool). Moved up (hits (below n f) at a) c u) e p
+
 pub twice-end : (F : ℕ → Bool) (at a o N : ℕ) (c : List ℕ) → o ≡ N → Twice (below o F) at a c → Twice (below N F) at a c
 twice-end F at a o N c e p = subst (λ (n : ℕ). Twice (below n F) at a c) e p
 
@@ -218,6 +224,11 @@ tells-yes p = record { yes = λ e. p; no = λ e q. subst T e tt }
 
 pub tells-no : {P : Type 0} → (P → ⊥) → Tells false P
 tells-no f = record { yes = λ e. absurd (subst T (sym e) tt); no = λ e q. f q }
+
+-- two answers to the parts of R
+pub tells-and : {P Q R : Type 0} (s t : Bool) → Tells s P → Tells t Q → (P → Q → R) → (R → P) → (R → Q) → Tells (s && t) R
+tells-and true t p q f g h = record { yes = λ e. f (p .yes refl) (q .yes e); no = λ e r. q .no e (h r) }
+tells-and false t p q f g h = record { yes = λ e. absurd (subst T (sym e) tt); no = λ e r. p .no refl (g r) }
 
 -- the counter of one pixel
 pub pixel-tells : (ink : Bool) (at a : ℕ) (c : List ℕ) → ink ≡ true → Tells (leb 2 (getD c (at - a) 0)) (Twice (below 1 (λ _. ink)) at a c)

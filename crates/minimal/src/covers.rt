@@ -39,6 +39,18 @@ fn move_pixel(up: bool, ink: bool, at: usize, a: usize, counters: &mut [u16])
 }
 
 // The counters of a byte's eight pixels.
+fn move_bits(up: bool, b: u8, at: usize, a: usize, counters: &mut [u16])
+    requires { ⌜ (at < 2 ^ 32) × Open up (below 8 (bitOf b)) at a (now counters) ⌝ }
+    ensures { λ _. ⌜ Moved up (hits (below 8 (bitOf b)) at a) (now (counters .entry)) (now (counters .exit)) ⌝ }
+{
+    let mut k: usize = 0;
+    while k < 8 {
+        move_pixel(up, bit(b, k), at + k, a, counters);
+        k = k + 1;
+    }
+}
+
+// The same; a blank byte is passed over, and a full one is known where it is compiled.
 fn move_byte(up: bool, b: u8, at: usize, a: usize, counters: &mut [u16])
     requires { ⌜ (at < 2 ^ 32) × Open up (below 8 (bitOf b)) at a (now counters) ⌝ }
     ensures { λ _. ⌜ Moved up (hits (below 8 (bitOf b)) at a) (now (counters .entry)) (now (counters .exit)) ⌝ }
@@ -46,11 +58,11 @@ fn move_byte(up: bool, b: u8, at: usize, a: usize, counters: &mut [u16])
     if b == 0 {
         return;
     }
-    let mut k: usize = 0;
-    while k < 8 {
-        move_pixel(up, bit(b, k), at + k, a, counters);
-        k = k + 1;
+    if b == 255 {
+        move_bits(up, 255, at, a, counters);
+        return;
     }
+    move_bits(up, b, at, a, counters);
 }
 
 // The counters of a row's pixels: the r bytes at d.
@@ -101,6 +113,20 @@ fn pixel_is_twice(ink: bool, at: usize, a: usize, counters: &[u16]) -> bool
 }
 
 // Whether the counters of a byte's eight pixels are.
+fn bits_are_twice(b: u8, at: usize, a: usize, counters: &[u16]) -> bool
+    requires { ⌜ (at < 2 ^ 32) × Within (below 8 (bitOf b)) at a (length (now counters)) ⌝ }
+    ensures { λ t. ⌜ Tells t (Twice (below 8 (bitOf b)) at a (now (counters .entry))) ⌝ }
+{
+    let mut all = true;
+    let mut k: usize = 0;
+    while k < 8 {
+        all = all & pixel_is_twice(bit(b, k), at + k, a, counters);
+        k = k + 1;
+    }
+    all
+}
+
+// The same; a blank byte is passed over, and a full one is known where it is compiled.
 fn byte_is_twice(b: u8, at: usize, a: usize, counters: &[u16]) -> bool
     requires { ⌜ (at < 2 ^ 32) × Within (below 8 (bitOf b)) at a (length (now counters)) ⌝ }
     ensures { λ t. ⌜ Tells t (Twice (below 8 (bitOf b)) at a (now (counters .entry))) ⌝ }
@@ -108,14 +134,10 @@ fn byte_is_twice(b: u8, at: usize, a: usize, counters: &[u16]) -> bool
     if b == 0 {
         return true;
     }
-    let mut k: usize = 0;
-    while k < 8 {
-        if !pixel_is_twice(bit(b, k), at + k, a, counters) {
-            return false;
-        }
-        k = k + 1;
+    if b == 255 {
+        return bits_are_twice(255, at, a, counters);
     }
-    true
+    bits_are_twice(b, at, a, counters)
 }
 
 // Whether those of a row's pixels are.

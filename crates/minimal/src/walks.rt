@@ -60,8 +60,9 @@ fn walk_size(
 {
     let above = covers::blank_above(&work[..p], h, r);
     let under = covers::blank_under(&work[..p], h, r, above);
+    let end = sizes::end_of(&labels[..], n);
     let mut i: usize = 0;
-    while i < labels.len() {
+    while i < end {
         step(w, h, r, above, under, a, n, i, labels, &work[..p], counters);
         i = i + 1;
     }

@@ -1,0 +1,74 @@
+-- `minimal::covers::bits_are_twice` meets its contract.
+use mathlib.Core.Path.{subst}
+use Prim.Native.Nat.{_+_, _-_, _≤_, ℕ}
+use native.Mathlib.Omega.{arith}
+use denote.Ref.{now}
+use lib.ListN.{length}
+use Rattle.morphology.specs.Image.{bitOf}
+use Rattle.minimal.specs.Moves.{Tells, Twice, below}
+use Rattle.minimal.proofs.MoveLaws.{pixel-of, tells-and, tells-yes, twice-first, twice-more, twice-part, twice-start, within-part}
+use Rattle.minimal.proofs.covers.bits_are_twice.Statement.{statement}
+use Rattle.minimal.proofs.covers.bits_are_twice.Tie as tie
+
+abbrev Inv-loop : tie.InvT-loop
+Inv-loop b at a counters all₀ k₀ all k = (k ≤ 8) × Tells all (Twice (below k (bitOf b)) at a counters)
+
+abbrev μ-loop : tie.MeasureT-loop
+μ-loop b at a counters all₀ k₀ all k = 8 - k
+
+loop-holds : tie.Need-loop-holds Inv-loop μ-loop
+loop-holds c = let a = c .before .args in (omega arith, tells-yes (twice-start (bitOf (a .b)) (a .at) (a .a) (now (a .counters))))
+
+bit-requires : tie.Need-bit-requires Inv-loop μ-loop
+bit-requires c κs = omega arith
+
+add-pixel-is-twice : tie.Need-add-pixel-is-twice Inv-loop μ-loop
+add-pixel-is-twice c = omega (arith, c .before .before .before .before .pre .0)
+
+pixel-is-twice-requires : tie.Need-pixel-is-twice-requires Inv-loop μ-loop
+pixel-is-twice-requires c κs =
+    let s = c .before .before .before .before in
+    let a = s .args in
+    let l = c .before .before .loop in
+    within-part (bitOf (a .b)) (λ _. c .bit .result) (a .at) (l .k) 1 (a .a) (pixel-of (bitOf (a .b)) (l .k) (c .bit .result) (c .bit .ensures)) 8 (length (now (a .counters))) (omega (arith, c .before .loop-test .taken)) (s .pre .1)
+
+add-k : tie.Need-add-k Inv-loop μ-loop
+add-k c = omega (arith, c .before .before .loop-test .taken)
+
+loop-less : tie.Need-loop-less Inv-loop μ-loop
+loop-less c = omega (arith, c .before .before .loop-test .taken)
+
+loop-again : tie.Need-loop-again Inv-loop μ-loop
+loop-again c =
+    let a = c .before .before .before .before .before .args in
+    let l = c .before .before .before .loop in
+    let b = c .before .bit in
+    let m = now (a .counters) in
+    let e = pixel-of (bitOf (a .b)) (l .k) (b .result) (b .ensures) in (
+      omega (arith, c .before .before .loop-test .taken),
+      tells-and (l .all) (c .pixel-is-twice .result) (l .inv .1) (c .pixel-is-twice .ensures)
+          (twice-more (bitOf (a .b)) (λ _. b .result) (a .at) (l .k) 1 (a .a) e m)
+          (twice-first (bitOf (a .b)) (λ _. b .result) (a .at) (l .k) 1 (a .a) e m)
+          (twice-part (bitOf (a .b)) (λ _. b .result) (a .at) (l .k) 1 (a .a) e (l .k + 1) m (omega arith)),
+    )
+
+returns : tie.Need-returns Inv-loop μ-loop
+returns c =
+    let a = c .before .before .before .args in
+    let l = c .before .loop in
+    subst (λ (n : ℕ). Tells (l .all) (Twice (below n (bitOf (a .b))) (a .at) (a .a) (now (a .counters)))) (omega (arith, l .inv .0, c .loop-test .left)) (l .inv .1)
+
+pub bits-are-twice-spec : {M : Type 1} → statement M
+bits-are-twice-spec =
+    tie.close
+    (tie.spec
+    Inv-loop
+    μ-loop
+    loop-holds
+    bit-requires
+    add-pixel-is-twice
+    pixel-is-twice-requires
+    add-k
+    loop-less
+    loop-again
+    returns)
