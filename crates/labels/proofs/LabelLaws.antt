@@ -41,15 +41,14 @@ drop-bit q s z w e =
 -- ---- one pixel
 
 -- what the code makes of the two bytes
-pub left-pixel : (s : List ℕ) (a b x : ℕ) → eqb (bitAnd (getD s (a + x / 8) 0) (bitXor (getD s (b + x / 8) 0) 255) / 2 ^ (7 - x % 8) % 2) 1 ≡ leftAt s a b x
-unfolding rowBit bitOf
-left-pixel s a b x =
-    less-bit (getD s (a + x / 8) 0) (getD s (b + x / 8) 0) (x % 8) (omega arith) ∙ ap₂ (λ (c d : Bool). c && not d) (at-byte a) (at-byte b)
+pub left-byte : (s : List ℕ) (a b x : ℕ) → x < 8 → bitOf (bitAnd (getD s a 0) (bitXor (getD s b 0) 255)) x ≡ leftAt s a b x
+unfolding rowBit
+left-byte s a b x h = less-bit (getD s a 0) (getD s b 0) x h ∙ ap₂ (λ (c d : Bool). c && not d) (at-byte a) (at-byte b)
   where
-    at-byte : (c : ℕ) → bitOf (getD s (c + x / 8) 0) (x % 8) ≡ rowBit s (8 * c + x)
+    at-byte : (c : ℕ) → bitOf (getD s c 0) x ≡ rowBit s (8 * c + x)
     at-byte c =
-        let e : c + x / 8 ≡ (8 * c + x) / 8 = omega arith in
-        let m : x % 8 ≡ (8 * c + x) % 8 = omega arith in
+        let e : c ≡ (8 * c + x) / 8 = omega arith in
+        let m : x ≡ (8 * c + x) % 8 = omega arith in
         ap₂ (λ (i k : ℕ). bitOf (getD s i 0) k) e m
 
 -- ---- one row
@@ -87,17 +86,21 @@ row-back at w k f v old ys n e h m =
       points = m .points ∙ ap (λ (i : ℕ). count f (upTo i)) (cut ∙ e);
     }
 
--- two rows that are the same
-pub row-same : (s : List ℕ) (a b r at w v : ℕ) (old : List ℕ) → w ≤ 8 * r → all (λ i. eqb (getD s (a + i) 0) (getD s (b + i) 0)) (upTo r) ≡ true
-    → RowLabelled at w (leftAt s a b) v old old 0
-unfolding rowBit
-row-same s a b r at w v old h e = record {
+-- nothing to label
+pub row-blank : (at w : ℕ) (f : ℕ → Bool) (v : ℕ) (old : List ℕ) → ((x : ℕ) → x < w → f x ≡ false) → RowLabelled at w f v old old 0
+row-blank at w f v old none = record {
   size = refl;
   before = λ j l. refl;
   after = λ j l. refl;
   places = λ x l. sym (ap (λ (c : Bool). cond c v (getD old (at + x) 0)) (none x l));
-  points = sym (count-none (leftAt s a b) (upTo w) (λ x m t. subst T (none x (of-upTo w m)) t));
+  points = sym (count-none f (upTo w) (λ x m t. subst T (none x (of-upTo w m)) t));
 }
+
+-- two rows that are the same
+pub row-same : (s : List ℕ) (a b r at w v : ℕ) (old : List ℕ) → w ≤ 8 * r → all (λ i. eqb (getD s (a + i) 0) (getD s (b + i) 0)) (upTo r) ≡ true
+    → RowLabelled at w (leftAt s a b) v old old 0
+unfolding rowBit
+row-same s a b r at w v old h e = row-blank at w (leftAt s a b) v old none
   where
     both : (c : Bool) → (c && not c) ≡ false
     both true = refl
@@ -125,6 +128,18 @@ count-on f g x (suc m) e =
     ∙ add-assoc (count f (upTo x)) (count g (upTo m)) (digit (g m))
     ∙ ap (λ (k : ℕ). count f (upTo x) + k) (sym (ap (λ (k : ℕ). count g (upTo k)) (sym (add-one m)) ∙ count-more g m))
 
+-- the same by another name
+pub row-as : (at w : ℕ) (f g : ℕ → Bool) (v : ℕ) (old new : List ℕ) (n : ℕ) → ((x : ℕ) → x < w → f x ≡ g x) → RowLabelled at w f v old new n → RowLabelled at w g v old new n
+unfolding count tabulate
+row-as at w f g v old new n e m = record {
+  size = m .size;
+  before = m .before;
+  after = m .after;
+  places = λ x l. m .places x l ∙ ap (λ (c : Bool). cond c v (getD old (at + x) 0)) (e x l);
+  points = m .points ∙
+      ap (λ (k : ℕ). count f (upTo k)) (sym (zero-add w)) ∙ count-on f g 0 w (λ j l. sym (e j l) ∙ ap f (sym (zero-add j))) ∙ zero-add (count g (upTo w));
+}
+
 pub row-none : (at : ℕ) (f : ℕ → Bool) (v : ℕ) (old : List ℕ) → RowLabelled at 0 f v old old 0
 unfolding count tabulate
 row-none at f v old = record { size = refl; before = λ j l. refl; after = λ j l. refl; places = λ x l. absurd (not-suc-le-zero l); points = refl }
@@ -150,19 +165,18 @@ row-more at x m f g v old u u′ n k e a b = record {
         ap (λ (t : ℕ). getD u′ t 0) (sym q) ∙ b .places i hi
         ∙ ap₂ (λ (c : Bool) (t : ℕ). cond c v t) (e i hi ∙ ap f z) (ap (λ (t : ℕ). getD u t 0) q ∙ a .after (at + j) (omega arith))
 
+-- the rest of w labels
+pub row-rest : (at x w : ℕ) (f g : ℕ → Bool) (v : ℕ) (old u u′ : List ℕ) (n k : ℕ) → x ≤ w → ((j : ℕ) → j < w - x → g j ≡ f (x + j))
+    → RowLabelled at x f v old u n → RowLabelled (at + x) (w - x) g v u u′ k → RowLabelled at w f v old u′ (n + k)
+row-rest at x w f g v old u u′ n k h e a b =
+    subst (λ (m : ℕ). RowLabelled at m f v old u′ (n + k)) (omega arith) (row-more at x (w - x) f g v old u u′ n k e a b)
+
 -- from byte x / 8 on
 pub left-on : (s : List ℕ) (a b x j : ℕ) → x % 8 ≡ 0 → leftAt s (a + x / 8) (b + x / 8) j ≡ leftAt s a b (x + j)
 left-on s a b x j e =
     let ea : 8 * (a + x / 8) + j ≡ 8 * a + (x + j) = omega arith in
     let eb : 8 * (b + x / 8) + j ≡ 8 * b + (x + j) = omega arith in
     ap₂ (λ (c d : ℕ). rowBit s c && not (rowBit s d)) ea eb
-
-pub whole-byte : (x m w : ℕ) → x % 8 ≡ 0 → m ≤ 8 → (m < 8 → m ≡ w - x) → x + m < w → (x + m) % 8 ≡ 0
-whole-byte x m w e h f l = by (decLt m 8)
-  where
-    by : Dec (m < 8) → (x + m) % 8 ≡ 0
-    by (yes k) = let q = f k in absurd (omega arith)
-    by (no k) = omega arith
 
 -- ---- rows of a plane
 

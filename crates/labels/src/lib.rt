@@ -5,16 +5,17 @@ ghost use mathlib.Core.Path.{_≡_};
 ghost use mathlib.Core.Bool.{cond};
 ghost use Prim.Native.Nat.{_+_, _*_, _/_, _<_, _≤_};
 ghost use lib.ListN.{length};
+ghost use Rattle.morphology.specs.Image.{bitOf};
 ghost use Rattle.planes.specs.Frames.{Frame};
 ghost use Rattle.labels.specs.Labelled.{leftAt, lacking, RowLabelled, Labelled};
 
-// Whether pixel x is foreground in the row at a and not in the row at b.
-fn is_left(s: &[u8], a: usize, b: usize, x: usize) -> bool
-    requires { ⌜ (a + x / 8 < length (now s)) × (b + x / 8 < length (now s)) ⌝ }
-    ensures { λ r. ⌜ r ≡ leftAt (now (s .entry)) a b x ⌝ }
+// Whether pixel x of the eight of a byte is foreground.
+fn is_one(byte: u8, x: usize) -> bool
+    requires { ⌜ x < 8 ⌝ }
+    ensures { λ r. ⌜ r ≡ bitOf byte x ⌝ }
 {
-    let k = (7 - x % 8) as u32;
-    ((s[a + x / 8] & (s[b + x / 8] ^ 255)) >> k) % 2 == 1
+    let k = (7 - x) as u32;
+    (byte >> k) % 2 == 1
 }
 
 fn chosen(left: bool, v: u8, old: u8) -> u8
@@ -35,57 +36,49 @@ fn digit(left: bool) -> u32
     0
 }
 
-// v at each label whose pixel is left. Answers how many.
-fn label_row(s: &[u8], a: usize, b: usize, v: u8, labels: &mut [u8]) -> u32
-    requires { ⌜ (a + (length (now labels) + 7) / 8 ≤ length (now s)) × (b + (length (now labels) + 7) / 8 ≤ length (now s)) × (length (now labels) ≤ 1024) ⌝ }
-    ensures { λ n. ⌜ RowLabelled 0 (length (now (labels .entry))) (leftAt (now (s .entry)) a b) v (now (labels .entry)) (now (labels .exit)) n ⌝ }
+// v at each of at most eight labels whose pixel in a byte is foreground. Answers how many.
+fn label_few(byte: u8, v: u8, labels: &mut [u8]) -> u32
+    requires { ⌜ length (now labels) ≤ 8 ⌝ }
+    ensures { λ n. ⌜ RowLabelled 0 (length (now (labels .entry))) (bitOf byte) v (now (labels .entry)) (now (labels .exit)) n ⌝ }
 {
     let mut n: u32 = 0;
     let mut x: usize = 0;
     while x < labels.len() {
-        let left = is_left(s, a, b, x);
-        labels[x] = chosen(left, v, labels[x]);
-        n = n + digit(left);
+        let one = is_one(byte, x);
+        labels[x] = chosen(one, v, labels[x]);
+        n = n + digit(one);
         x = x + 1;
     }
     n
 }
 
-// The m labels from at on, of one byte of each plane; passed over where the bytes are the same.
+// The m labels from at on, of one byte of each plane; passed over where nothing is left.
 fn label_byte(s: &[u8], a: usize, b: usize, at: usize, m: usize, v: u8, labels: &mut [u8]) -> u32
     requires { ⌜ (a < length (now s)) × (b < length (now s)) × (m ≤ 8) × (at + m ≤ length (now labels)) ⌝ }
     ensures { λ n. ⌜ RowLabelled at m (leftAt (now (s .entry)) a b) v (now (labels .entry)) (now (labels .exit)) n ⌝ }
 {
-    if raster::same_rows(s, a, b, 1) {
+    let left = s[a] & (s[b] ^ 255);
+    if left == 0 {
         return 0;
     }
-    label_row(s, a, b, v, &mut labels[at..at + m])
+    label_few(left, v, &mut labels[at..at + m])
 }
 
-// At most 8 of n.
-fn eight(n: usize) -> usize
-    requires { ⌜ 0 < n ⌝ }
-    ensures { λ m. ⌜ (m ≤ n) × (m ≤ 8) × (0 < m) × ((m < 8) → m ≡ n) ⌝ }
-{
-    if n < 8 {
-        return n;
-    }
-    8
-}
-
-// The w labels from at on, of the rows at a and at b.
+// The w labels from at on, of the rows at a and at b, by whole bytes and what is left of the last.
 fn label_bytes(s: &[u8], a: usize, b: usize, at: usize, w: usize, v: u8, labels: &mut [u8]) -> u32
     requires { ⌜ (a + (w + 7) / 8 ≤ length (now s)) × (b + (w + 7) / 8 ≤ length (now s)) × (w ≤ 1024) × (at + w ≤ length (now labels)) ⌝ }
     ensures { λ n. ⌜ RowLabelled at w (leftAt (now (s .entry)) a b) v (now (labels .entry)) (now (labels .exit)) n ⌝ }
 {
     let mut n: u32 = 0;
     let mut x: usize = 0;
-    while x < w {
-        let m = eight(w - x);
-        n = n + label_byte(s, a + x / 8, b + x / 8, at + x, m, v, labels);
-        x = x + m;
+    while x + 8 <= w {
+        n = n + label_byte(s, a + x / 8, b + x / 8, at + x, 8, v, labels);
+        x = x + 8;
     }
-    n
+    if x == w {
+        return n;
+    }
+    n + label_byte(s, a + x / 8, b + x / 8, at + x, w - x, v, labels)
 }
 
 // Row y of the first plane and of the plane at q; passed over where they are the same.

@@ -1,57 +1,64 @@
--- `labels::label_byte` meets its contract.
-use mathlib.Core.Path.{_∙_, sym}
+use borrow.Author.Needs.{needs}
+use mathlib.Core.Path.{_∙_, sym, ap}
 use Prim.Native.Nat.{_+_, _-_}
 use native.Mathlib.Omega.{arith}
-use borrow.Author.Needs.{needs}
 use denote.Ref.{now}
+use lib.Dec.{eqb→eq}
+use Rattle.morphology.specs.Image.{bitOf}
+use Rattle.raster.proofs.ByteLaws.{zero-bit}
 use Rattle.labels.specs.Labelled.{leftAt}
-use Rattle.labels.proofs.LabelLaws.{row-back, row-same}
+use Rattle.labels.proofs.LabelLaws.{left-byte, row-as, row-back, row-blank}
 use Rattle.labels.proofs.label_byte.Statement.{statement}
 use Rattle.labels.proofs.label_byte.Tie as tie
 
-same-rows-requires : tie.Need-same-rows-requires
-same-rows-requires c κs = search needs
+shared-slice-read-left : tie.Need-shared-slice-read-left
+shared-slice-read-left c = search needs
+
+shared-slice-read-left-2 : tie.Need-shared-slice-read-left-2
+shared-slice-read-left-2 c = search needs
 
 returns : tie.Need-returns
 returns c =
-    let s = c .before .before .before .before in
+    let s = c .before .before .before .before .before in
     let a = s .args in
-    row-same (now (a .s)) (a .a) (a .b) 1 (a .at) (a .m) (a .v) (now (a .labels)) (s .pre .2) (sym (c .before .same-rows .ensures) ∙ c .if1 .taken)
+    row-blank (a .at) (a .m) (leftAt (now (a .s)) (a .a) (a .b)) (a .v) (now (a .labels)) (λ x l. sym (left-byte (now (a .s)) (a .a) (a .b) x (omega (arith, s .pre .2))) ∙ zero-bit _ x (c .if1 .taken))
 
-add-label-row : tie.Need-add-label-row
-add-label-row c = search needs
+add-label-few : tie.Need-add-label-few
+add-label-few c = search needs
 
-sub-label-row : tie.Need-sub-label-row
-sub-label-row c = search needs
+sub-label-few : tie.Need-sub-label-few
+sub-label-few c = search needs
 
-part-label-row-start : tie.Need-part-label-row-start
-part-label-row-start c = search needs
+part-label-few-start : tie.Need-part-label-few-start
+part-label-few-start c = search needs
 
-part-label-row-end : tie.Need-part-label-row-end
-part-label-row-end c = search needs
+part-label-few-end : tie.Need-part-label-few-end
+part-label-few-end c = search needs
 
-label-row-requires : tie.Need-label-row-requires
-label-row-requires c κs = search needs
+label-few-requires : tie.Need-label-few-requires
+label-few-requires c κs = search needs
 
 same-length : tie.Need-same-length
 same-length c = search needs
 
 returns-2 : tie.Need-returns-2
 returns-2 c =
-    let s = c .before .before .before .before .before .before .before .before in
+    let s = c .before .before .before .before .before .before .before .before .before in
     let a = s .args in
-    row-back (a .at) (a .m) (a .at + a .m - a .at) (leftAt (now (a .s)) (a .a) (a .b)) (a .v) (now (a .labels)) _ _ (omega arith) (s .pre .3) (c .before .before .label-row .ensures)
+    row-as (a .at) (a .m) _ (leftAt (now (a .s)) (a .a) (a .b)) (a .v) (now (a .labels)) _ _ (λ x l. left-byte (now (a .s)) (a .a) (a .b) x (omega (arith, s .pre .2)))
+        (row-back (a .at) (a .m) (a .at + a .m - a .at) (bitOf _) (a .v) (now (a .labels)) _ _ (omega arith) (s .pre .3) (c .before .before .label-few .ensures))
 
 pub label-byte-spec : {M : Type 1} → statement M
 label-byte-spec =
     tie.close
     (tie.spec
-    same-rows-requires
+    shared-slice-read-left
+    shared-slice-read-left-2
     returns
-    add-label-row
-    sub-label-row
-    part-label-row-start
-    part-label-row-end
-    label-row-requires
+    add-label-few
+    sub-label-few
+    part-label-few-start
+    part-label-few-end
+    label-few-requires
     same-length
     returns-2)
