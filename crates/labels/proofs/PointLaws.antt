@@ -178,6 +178,15 @@ labels-none row v old e = record { size = refl; pixels = λ x l. or-none (rowBit
     none x (yes l) = in-label row v x l ∙ no-label row x l e
     none x (no l) = past-label row v x (omega arith)
 
+-- a row whose largest label is smaller
+pub labels-below : (row : List ℕ) (v : ℕ) (old : List ℕ) → greatest row < v → Pixelwise old old (λ x b. b || isLabel row v x)
+unfolding greatest
+labels-below row v old h = labels-none row v old (below row h)
+  where
+    below : (l : List ℕ) → greatest l < v → any (λ b. eqb b v) l ≡ false
+    below [] h = refl
+    below (b ∷ l) h = ap₂ (λ (c d : Bool). c || d) (ne-eqb b v (λ e. omega arith)) (below l (omega arith))
+
 -- ---- rows of a plane
 
 -- the label of pixel x of row y is v

@@ -15,14 +15,15 @@ use lib.ListN.{drop, getD, length, length-drop, length-take, set, take}
 use lib.Seq.{getD-drop, getD-set-other, getD-set-same, getD-take, length-take-le}
 use Rattle.morphology.specs.Extent.{boxed, extent}
 use Rattle.morphology.specs.Labels.{labelAt, places}
-use Rattle.morphology.specs.Lists.{any, upTo}
+use Rattle.morphology.specs.Lists.{any, greatest, upTo}
 use Rattle.morphology.specs.Point.{Point, at, origin}
 use Rattle.morphology.specs.Refusals.{isWild, leaves}
-use Rattle.morphology.proofs.CountLaws.{any-suc}
+use Rattle.morphology.proofs.CountLaws.{any-suc, getD-greatest}
 use Rattle.morphology.proofs.CoverLaws.{in-upTo, of-upTo}
 use Rattle.morphology.proofs.ElementLaws.{Element}
 use Rattle.morphology.proofs.ExtentLaws.{box-exact}
 use Rattle.morphology.proofs.LabelLaws.{in-places, labelAt-at, of-places}
+use Rattle.morphology.proofs.RefusalLaws.{false-of}
 use Rattle.morphology.proofs.SkeletonLaws.{any-agree}
 use Rattle.morphology.proofs.TestLaws.{T-ext, and-in, and-l, and-r, any-in, any-out}
 use Rattle.planes.specs.Measures.{measure}
@@ -236,3 +237,16 @@ module _ {W H : ℕ} {B : List Point} {k : ℕ} {m : List ℕ} {left right up do
 
 pub wild-last : (W H : ℕ) (B : List Point) (k : ℕ) (m : List ℕ) (y : ℕ) → y ≡ H → any (rowWild W H B k m) (upTo y) ≡ false → false ≡ isWild W H B k m
 wild-last W H B k m y e f = sym (wild-rows W H B k m ∙ ap (λ (n : ℕ). any (rowWild W H B k m) (upTo n)) (sym e) ∙ f)
+
+-- no label is above the cut: no point is kept
+pub none-kept : (W H : ℕ) (B : List Point) (k : ℕ) (m : List ℕ) → greatest m ≤ k → false ≡ isWild W H B k m
+unfolding leaves
+none-kept W H B k m h = sym (wild-rows W H B k m ∙ false-of (any (rowWild W H B k m) (upTo H)) (λ t.
+    let r = any-out (rowWild W H B k m) (upTo H) t in
+    let y = r .0 in
+    let s = any-out (λ x. leaves W H B k (at (pos x) (pos y)) (getD m (y * W + x) 0)) (upTo W) (r .2) in
+    dropped (at (pos (s .0)) (pos y)) (getD m (y * W + s .0) 0) (omega (arith, getD-greatest m (y * W + s .0))) (s .2)))
+  where
+    dropped : (p : Point) (v : ℕ) → v ≤ k → T (leaves W H B k p v) → ⊥
+    dropped p zero l t = t
+    dropped p (suc n) l t = let h = leb→le k n (and-l (leb k n) _ t) in absurd (omega arith)

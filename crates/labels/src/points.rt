@@ -7,7 +7,7 @@ ghost use Rattle.morphology.specs.Image.{fromBits, isClean, pack};
 ghost use Rattle.morphology.specs.Lists.{any, greatest as greatestOf};
 ghost use Rattle.planes.specs.Frames.{Frame};
 ghost use Rattle.raster.specs.Rows.{Pixelwise, overwrite};
-ghost use Rattle.labels.specs.Points.{isLabel, withPoints};
+ghost use Rattle.labels.specs.Points.{isLabel, Tops, withPoints};
 
 fn larger(a: u8, b: u8) -> u8
     ensures { λ r. ⌜ r ≡ max a b ⌝ }
@@ -29,6 +29,19 @@ pub fn greatest(labels: &[u8]) -> u8
         i = i + 1;
     }
     m
+}
+
+// The largest label of each row.
+pub fn row_tops(labels: &[u8], w: usize, h: usize, tops: &mut [u8])
+    requires { ⌜ (w ≤ 1024) × (length (now labels) ≡ w * h) × (h ≤ length (now tops)) × (length (now tops) ≤ 1024) ⌝ }
+    ensures { λ _. ⌜ Tops w h (now (labels .entry)) (now (tops .exit)) ⌝ }
+{
+    let mut y: usize = 0;
+    while y < h {
+        let a = y * w;
+        tops[y] = greatest(&labels[a..a + w]);
+        y = y + 1;
+    }
 }
 
 fn same(a: u8, b: u8) -> u8
@@ -91,26 +104,29 @@ fn join_labels(row: &[u8], v: u8, pixels: &mut [u8])
     }
 }
 
-// The same; a row without such a label is passed over.
-fn add_row(row: &[u8], v: u8, pixels: &mut [u8])
-    requires { ⌜ 8 * length (now pixels) < length (now row) + 8 ⌝ }
+// The same; a row without such a label is passed over, by its largest label at once.
+fn add_row(row: &[u8], top: u8, v: u8, pixels: &mut [u8])
+    requires { ⌜ (top ≡ greatestOf (now row)) × (8 * length (now pixels) < length (now row) + 8) ⌝ }
     ensures { λ _. ⌜ Pixelwise (now (pixels .entry)) (now (pixels .exit)) (λ x b. b || isLabel (now (row .entry)) v x) ⌝ }
 {
+    if top < v {
+        return;
+    }
     if has_label(row, v) {
         join_labels(row, v, pixels);
     }
 }
 
-// The points with label v joined to a plane.
-pub fn add_points(labels: &[u8], w: usize, h: usize, r: usize, v: u8, plane: &mut [u8])
-    requires { ⌜ Frame w h r × (0 < v) × (length (now labels) ≡ w * h) × (h * r ≤ length (now plane)) × T (isClean w h (now plane)) ⌝ }
+// The points with label v joined to a plane, where each row's largest label is known.
+pub fn add_points(labels: &[u8], tops: &[u8], w: usize, h: usize, r: usize, v: u8, plane: &mut [u8])
+    requires { ⌜ Frame w h r × (0 < v) × (length (now labels) ≡ w * h) × (h * r ≤ length (now plane)) × T (isClean w h (now plane)) × Tops w h (now labels) (now tops) × (h ≤ length (now tops)) ⌝ }
     ensures { λ _. ⌜ now (plane .exit) ≡ overwrite 0 (pack w h (withPoints w h (now (labels .entry)) v (now (plane .entry)))) (now (plane .entry)) ⌝ }
 {
     let mut y: usize = 0;
     while y < h {
         let a = y * w;
         let d = y * r;
-        add_row(&labels[a..a + w], v, &mut plane[d..d + r]);
+        add_row(&labels[a..a + w], tops[y], v, &mut plane[d..d + r]);
         y = y + 1;
     }
 }

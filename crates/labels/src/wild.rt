@@ -1,3 +1,4 @@
+use crate::points;
 ghost use mathlib.Core.Path.{_≡_};
 ghost use Prim.Native.Nat.{ℕ, _*_, _<_, _≤_};
 ghost use lib.Dec.{leb, ltb, T};
@@ -93,8 +94,8 @@ fn row_is_wild(row: &[u8], limits: &[u8], limit: u8) -> bool
     wild
 }
 
-// Row 5: a point of the map, kept from the cut on, leaves the frame when it is dilated to its size.
-pub fn is_wild(w: usize, h: usize, element: u32, cut: u32, labels: &[u8]) -> bool
+// Whether a label is above the limit of its column or its row.
+fn has_wild(w: usize, h: usize, element: u32, cut: u32, labels: &[u8]) -> bool
     requires { ⌜ (w ≤ 1024) × (length (now labels) ≡ w * h) × T (isElement element) ⌝ }
     ensures { λ r. ⌜ r ≡ isWild w h (offsets element) cut (now (labels .entry)) ⌝ }
 {
@@ -113,4 +114,15 @@ pub fn is_wild(w: usize, h: usize, element: u32, cut: u32, labels: &[u8]) -> boo
         y = y + 1;
     }
     false
+}
+
+// Row 5: a point of the map, kept from the cut on, leaves the frame when it is dilated to its size. Where none is kept, none is looked at.
+pub fn is_wild(w: usize, h: usize, element: u32, cut: u32, labels: &[u8]) -> bool
+    requires { ⌜ (w ≤ 1024) × (length (now labels) ≡ w * h) × T (isElement element) ⌝ }
+    ensures { λ r. ⌜ r ≡ isWild w h (offsets element) cut (now (labels .entry)) ⌝ }
+{
+    if points::greatest(labels) as u32 <= cut {
+        return false;
+    }
+    has_wild(w, h, element, cut, labels)
 }

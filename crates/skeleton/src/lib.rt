@@ -14,6 +14,7 @@ ghost use Rattle.morphology.specs.Operations.{cleared, eroded, opened, decompos
 ghost use Rattle.morphology.specs.Refusals.{firstRefusal, notPlane, shortWork, row1, row2, row3, row4};
 ghost use Rattle.morphology.specs.Skeleton.{reconstruction};
 ghost use Rattle.planes.specs.Frames.{Frame};
+ghost use Rattle.labels.specs.Points.{Tops};
 ghost use Rattle.steps.specs.Steps.{First, Sheet, Wrote, Ready};
 ghost use Rattle.skeleton.specs.Gathered.{Kept, Tame, gathered, grown};
 ghost use Rattle.skeleton.specs.Bands.{Banded};
@@ -276,12 +277,22 @@ pub fn decompose(
 }
 
 // One size of a reconstruction: the first plane dilated, and the points with label v joined to it.
-fn grow(w: usize, h: usize, r: usize, p: usize, element: u32, v: u8, labels: &[u8], work: &mut [u8])
-    requires { ⌜ Sheet w h r p × (2 * p ≤ length (now work)) × (0 < v) × (length (now labels) ≡ w * h) × T (isClean w h (now work)) ⌝ }
+fn grow(
+    w: usize,
+    h: usize,
+    r: usize,
+    p: usize,
+    element: u32,
+    v: u8,
+    labels: &[u8],
+    tops: &[u8],
+    work: &mut [u8],
+)
+    requires { ⌜ Sheet w h r p × (2 * p ≤ length (now work)) × (0 < v) × (length (now labels) ≡ w * h) × T (isClean w h (now work)) × Tops w h (now labels) (now tops) × (h ≤ length (now tops)) ⌝ }
     ensures { λ _. ⌜ First w h p (grown w h (offsets element) (now (labels .entry)) v (now (work .entry))) (now (work .entry)) (now (work .exit)) ⌝ }
 {
     steps::dilate_times(w, h, r, p, element, 1, work);
-    labels::points::add_points(labels, w, h, r, v, &mut work[..p]);
+    labels::points::add_points(labels, tops, w, h, r, v, &mut work[..p]);
 }
 
 // The sizes from the largest down to the cut, gathered in an empty first plane.
@@ -299,8 +310,13 @@ fn gather(
     ensures { λ _. ⌜ First w h p (gathered w h (offsets element) (now (labels .entry)) cut) (now (work .entry)) (now (work .exit)) ⌝ }
 {
     let mut n = labels::points::greatest(labels) as u32;
+    if n <= cut {
+        return;
+    }
+    let mut tops = [0u8; 1024];
+    labels::points::row_tops(labels, w, h, &mut tops);
     while cut < n {
-        grow(w, h, r, p, element, n as u8, labels, work);
+        grow(w, h, r, p, element, n as u8, labels, &tops, work);
         n = n - 1;
     }
 }

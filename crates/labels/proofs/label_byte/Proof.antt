@@ -46,7 +46,7 @@ returns-2 c =
     let s = c .before .before .before .before .before .before .before .before .before in
     let a = s .args in
     row-as (a .at) (a .m) _ (leftAt (now (a .s)) (a .a) (a .b)) (a .v) (now (a .labels)) _ _ (λ x l. left-byte (now (a .s)) (a .a) (a .b) x (omega (arith, s .pre .2)))
-        (row-back (a .at) (a .m) (a .at + a .m - a .at) (bitOf _) (a .v) (now (a .labels)) _ _ (omega arith) (s .pre .3) (c .before .before .label-few .ensures))
+    (row-back (a .at) (a .m) (a .at + a .m - a .at) (bitOf _) (a .v) (now (a .labels)) _ _ (omega arith) (s .pre .3) (c .before .before .label-few .ensures))
 
 pub label-byte-spec : {M : Type 1} → statement M
 label-byte-spec =

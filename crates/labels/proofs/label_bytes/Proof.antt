@@ -135,7 +135,7 @@ returns-2 c =
     let a = s .args in
     let l = c .before .before .before .before .before .before .loop in
     row-rest (a .at) (l .x) (a .w) (leftAt (now (a .s)) (a .a) (a .b)) _ (a .v) (now (a .labels)) (l .labels) _ (l .n) _ (l .inv .0)
-        (λ j h. left-on (now (a .s)) (a .a) (a .b) (l .x) j (l .inv .1)) (l .inv .2) (c .before .before .label-byte2 .ensures)
+    (λ j h. left-on (now (a .s)) (a .a) (a .b) (l .x) j (l .inv .1)) (l .inv .2) (c .before .before .label-byte2 .ensures)
 
 pub label-bytes-spec : {M : Type 1} → statement M
 label-bytes-spec =

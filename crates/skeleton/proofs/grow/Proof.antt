@@ -1,6 +1,5 @@
--- `skeleton::grow` meets its contract.
-use mathlib.Core.Path.{sym}
 use borrow.Author.Needs.{needs}
+use mathlib.Core.Path.{sym}
 use native.Mathlib.Omega.{arith}
 use denote.Ref.{now}
 use lib.Seq.{length-take-le}
@@ -20,12 +19,12 @@ slice-relend-prefix-add-points c = search needs
 
 slice-aggregate-add-points : tie.Need-slice-aggregate-add-points
 slice-aggregate-add-points c =
-    let s = c .before .before .before .before .before .before .before in
+    let s = c .before .before .before .before .before .before .before .before in
     sym (length-take-le (s .args .p) _ (omega (arith, s .pre .1, c .before .before .before .dilate-times .ensures .size)))
 
 add-points-requires : tie.Need-add-points-requires
 add-points-requires c κs =
-    let s = c .before .before .before .before .before .before .before in
+    let s = c .before .before .before .before .before .before .before .before in
     let a = s .args in
     let e = c .before .before .before .dilate-times .ensures in
     let q = sheet-bytes (s .pre .0) in
@@ -35,6 +34,8 @@ add-points-requires c κs =
       s .pre .3,
       omega (arith, s .pre .0 .plane, taken (a .w) (a .h) (a .p) q _ on (now (a .work)) _ (s .pre .1) e),
       part-clean (a .w) (a .h) (a .p) q _ on (now (a .work)) _ (s .pre .1) e,
+      s .pre .5,
+      s .pre .6,
     )
 
 same-length : tie.Need-same-length
@@ -42,7 +43,7 @@ same-length c = search needs
 
 returns : tie.Need-returns
 returns c =
-    let s = c .before .before .before .before .before .before .before .before .before .before in
+    let s = c .before .before .before .before .before .before .before .before .before .before .before in
     let a = s .args in
     let on = dilated-on (a .w) (a .h) (offsets (a .element)) _ (imageSet (a .w) (a .h) (now (a .work))) (image-on (a .w) (a .h) (now (a .work))) in
     joined-first (a .w) (a .h) (a .p) (sheet-bytes (s .pre .0)) _ on (now (a .work)) _ (s .pre .1) (c .before .before .before .before .before .before .dilate-times .ensures) (now (a .labels)) (a .v) _ (c .before .before .add-points .ensures)

@@ -1,12 +1,13 @@
--- `labels::points::add_points` meets its contract.
+use Rattle.labels.proofs.points.add_points.Statement.{statement}
 use mathlib.Core.Bool.{Bool, _||_}
-use mathlib.Core.Path.{_≡_, subst}
+use mathlib.Core.Path.{_∙_, _≡_, ap, subst}
 use Prim.Native.Nat.{_*_, _+_, _-_, _<_, _≤_, ℕ}
 use native.Mathlib.Nat.{le-refl, mul-comm, mul-le-mul-right}
 use native.Mathlib.Omega.{arith}
 use denote.Ref.{now}
-use lib.ListN.{drop, getD, length, length-drop}
+use lib.ListN.{drop, getD, length, length-drop, take}
 use lib.Seq.{length-take-le}
+use Rattle.morphology.specs.Lists.{greatest}
 use Rattle.planes.specs.Neighbours.{PlaneIs}
 use Rattle.planes.proofs.PlaneLaws.{frame-row, plane-packed}
 use Rattle.planes.proofs.ScatterLaws.{rows-none}
@@ -14,96 +15,108 @@ use Rattle.raster.specs.Rows.{rowBit}
 use Rattle.raster.proofs.RowLaws.{row-in}
 use Rattle.labels.specs.Points.{withPoints}
 use Rattle.labels.proofs.PointLaws.{labelIs, points-more, points-set}
-use Rattle.labels.proofs.points.add_points.Statement.{statement}
 use Rattle.labels.proofs.points.add_points.Tie as tie
 
 abbrev Inv-loop : tie.InvT-loop
-Inv-loop labels w h r v plane₀ y₀ plane y = (y ≤ h) × PlaneIs 0 r y plane₀ plane (λ y x. rowBit plane₀ (8 * (0 + y * r) + x) || labelIs w labels v y x) × ((i : ℕ) → getD plane i 0 < 256)
+Inv-loop labels tops w h r v plane₀ y₀ plane y =
+    (y ≤ h) × PlaneIs 0 r y plane₀ plane (λ y x. rowBit plane₀ (8 * (0 + y * r) + x) || labelIs w labels v y x) × ((i : ℕ) → getD plane i 0 < 256)
 
 abbrev μ-loop : tie.MeasureT-loop
-μ-loop labels w h r v plane₀ y₀ plane y = h - y
+μ-loop labels tops w h r v plane₀ y₀ plane y =
+    h - y
 
 loop-holds : tie.Need-loop-holds Inv-loop μ-loop
 loop-holds c =
-    let a = c .before .before .args in
+    let a = c .before .before .before .args in
     (omega arith, rows-none 0 (a .r) (now (a .plane)) (λ y x b. b || labelIs (a .w) (now (a .labels)) (a .v) y x), λ i. c .slice-known .given i .fits)
 
 mul-a : tie.Need-mul-a Inv-loop μ-loop
 mul-a c =
-    let s = c .before .before .before .before in
+    let s = c .before .before .before .before .before in
     let a = s .args in
     omega (arith, row-in (c .before .loop .y) (a .h) (a .w) (a .h * a .w) (c .loop-test .taken) (le-refl (a .h * a .w)), mul-le-mul-right (a .w) (s .pre .0 .down), s .pre .0 .across)
 
 mul-d : tie.Need-mul-d Inv-loop μ-loop
 mul-d c =
-    let s = c .before .before .before .before in
+    let s = c .before .before .before .before .before in
     let a = s .args in
     omega (arith, row-in (c .before .loop .y) (a .h) (a .r) (a .h * a .r) (c .loop-test .taken) (le-refl (a .h * a .r)), mul-le-mul-right (a .r) (s .pre .0 .down), frame-row (s .pre .0))
 
 add-add-row : tie.Need-add-add-row Inv-loop μ-loop
 add-add-row c =
-    let s = c .before .before .before .before in
+    let s = c .before .before .before .before .before in
     let a = s .args in
     omega (arith, row-in (c .before .loop .y) (a .h) (a .w) (a .h * a .w) (c .loop-test .taken) (le-refl (a .h * a .w)), mul-le-mul-right (a .w) (s .pre .0 .down), s .pre .0 .across)
 
 sub-add-row : tie.Need-sub-add-row Inv-loop μ-loop
-sub-add-row c = omega arith
+sub-add-row c =
+    omega arith
 
 part-add-row-start : tie.Need-part-add-row-start Inv-loop μ-loop
-part-add-row-start c = omega arith
+part-add-row-start c =
+    omega arith
 
 part-add-row-end : tie.Need-part-add-row-end Inv-loop μ-loop
 part-add-row-end c =
-    let s = c .before .before .before .before in
+    let s = c .before .before .before .before .before in
     let a = s .args in
     omega (arith, row-in (c .before .loop .y) (a .h) (a .w) (a .h * a .w) (c .loop-test .taken) (le-refl (a .h * a .w)), mul-comm (a .h) (a .w), s .pre .2)
 
+shared-slice-read-add-row : tie.Need-shared-slice-read-add-row Inv-loop μ-loop
+shared-slice-read-add-row c =
+    omega (arith, c .before .before .before .before .before .before .before .pre .6, c .before .before .loop-test .taken)
+
 add-add-row-2 : tie.Need-add-add-row-2 Inv-loop μ-loop
 add-add-row-2 c =
-    let s = c .before .before .before .before .before in
+    let s = c .before .before .before .before .before .before .before in
     let a = s .args in
-    omega (arith, row-in (c .before .before .loop .y) (a .h) (a .r) (a .h * a .r) (c .before .loop-test .taken) (le-refl (a .h * a .r)), mul-le-mul-right (a .r) (s .pre .0 .down), frame-row (s .pre .0))
+    omega (arith, row-in (c .before .before .before .loop .y) (a .h) (a .r) (a .h * a .r) (c .before .before .loop-test .taken) (le-refl (a .h * a .r)), mul-le-mul-right (a .r) (s .pre .0 .down), frame-row (s .pre .0))
 
 sub-add-row-2 : tie.Need-sub-add-row-2 Inv-loop μ-loop
-sub-add-row-2 c = omega arith
+sub-add-row-2 c =
+    omega arith
 
 part-add-row-start-2 : tie.Need-part-add-row-start-2 Inv-loop μ-loop
-part-add-row-start-2 c = omega arith
+part-add-row-start-2 c =
+    omega arith
 
 part-add-row-end-2 : tie.Need-part-add-row-end-2 Inv-loop μ-loop
 part-add-row-end-2 c =
-    let s = c .before .before .before .before .before in
+    let s = c .before .before .before .before .before .before .before in
     let a = s .args in
-    omega (arith, row-in (c .before .before .loop .y) (a .h) (a .r) (length (now (a .plane))) (c .before .loop-test .taken) (s .pre .3), c .before .before .loop .inv .1 .size)
+    omega (arith, row-in (c .before .before .before .loop .y) (a .h) (a .r) (length (now (a .plane))) (c .before .before .loop-test .taken) (s .pre .3), c .before .before .before .loop .inv .1 .size)
 
 add-row-requires : tie.Need-add-row-requires Inv-loop μ-loop
 add-row-requires c κs =
-    let s = c .before .before .before .before .before .before in
+    let s = c .before .before .before .before .before .before .before .before in
     let a = s .args in
-    let l = c .before .before .before .loop in
+    let l = c .before .before .before .before .loop in
     let at = l .y * a .w in
     let d = l .y * a .r in
-    let i = row-in (l .y) (a .h) (a .w) (a .h * a .w) (c .before .before .loop-test .taken) (le-refl (a .h * a .w)) in
-    let j = row-in (l .y) (a .h) (a .r) (length (now (a .plane))) (c .before .before .loop-test .taken) (s .pre .3) in
+    let i = row-in (l .y) (a .h) (a .w) (a .h * a .w) (c .before .before .before .loop-test .taken) (le-refl (a .h * a .w)) in
+    let j = row-in (l .y) (a .h) (a .r) (length (now (a .plane))) (c .before .before .before .loop-test .taken) (s .pre .3) in
     let m = length-take-le (at + a .w - at) (drop at (now (a .labels))) (omega (arith, length-drop at (now (a .labels)), i, mul-comm (a .h) (a .w), s .pre .2)) in
     let n = length-take-le (d + a .r - d) (drop d (l .plane)) (omega (arith, length-drop d (l .plane), j, l .inv .1 .size)) in
-    omega (arith, m, n, frame-row (s .pre .0))
+    let e : a .w ≡ at + a .w - at = omega arith in
+    (s .pre .5 (l .y) (c .before .before .before .loop-test .taken) ∙ ap (λ (k : ℕ). greatest (take k (drop at (now (a .labels))))) e, omega (arith, m, n, frame-row (s .pre .0)))
 
 add-y : tie.Need-add-y Inv-loop μ-loop
-add-y c = omega (arith, c .before .before .before .before .before .before .before .before .before .pre .0 .down)
+add-y c =
+    omega (arith, c .before .before .before .before .before .before .before .before .before .before .before .pre .0 .down)
 
 loop-less : tie.Need-loop-less Inv-loop μ-loop
-loop-less c = omega arith
+loop-less c =
+    omega arith
 
 loop-again : tie.Need-loop-again Inv-loop μ-loop
 loop-again c =
-    let s = c .before .before .before .before .before .before .before .before .before in
+    let s = c .before .before .before .before .before .before .before .before .before .before .before in
     let a = s .args in
-    let l = c .before .before .before .before .before .before .loop in
+    let l = c .before .before .before .before .before .before .before .loop in
     let d = l .y * a .r in
     let at = l .y * a .w in
-    let i = row-in (l .y) (a .h) (a .w) (a .h * a .w) (c .before .before .before .before .before .loop-test .taken) (le-refl (a .h * a .w)) in
-    let j = row-in (l .y) (a .h) (a .r) (length (now (a .plane))) (c .before .before .before .before .before .loop-test .taken) (s .pre .3) in (
+    let i = row-in (l .y) (a .h) (a .w) (a .h * a .w) (c .before .before .before .before .before .before .loop-test .taken) (le-refl (a .h * a .w)) in
+    let j = row-in (l .y) (a .h) (a .r) (length (now (a .plane))) (c .before .before .before .before .before .before .loop-test .taken) (s .pre .3) in (
       omega arith,
       points-more (a .w) (a .r) (l .y) (a .v) (at + a .w - at) (d + a .r - d) (now (a .labels)) (now (a .plane)) (l .plane) _ (omega arith) (omega arith) (omega (arith, i, mul-comm (a .h) (a .w), s .pre .2)) (omega (arith, j, l .inv .1 .size)) (l .inv .1)
           (c .before .before .add-row .ensures),
@@ -111,11 +124,12 @@ loop-again c =
     )
 
 same-length : tie.Need-same-length Inv-loop μ-loop
-same-length c = c .before .loop .inv .1 .size
+same-length c =
+    c .before .loop .inv .1 .size
 
 returns : tie.Need-returns Inv-loop μ-loop
 returns c =
-    let s = c .before .before .before .before in
+    let s = c .before .before .before .before .before in
     let a = s .args in
     let l = c .before .loop in
     let e : l .y ≡ a .h = omega arith in
@@ -136,6 +150,7 @@ add-points-spec =
     sub-add-row
     part-add-row-start
     part-add-row-end
+    shared-slice-read-add-row
     add-add-row-2
     sub-add-row-2
     part-add-row-start-2
