@@ -8,14 +8,14 @@ use native.Mathlib.Nat.{add-zero, le-refl, not-suc-le-zero, suc-mul, zero-div}
 use native.Mathlib.Numerals.{add-one}
 use native.Mathlib.Omega.{arith}
 use borrow.Author.Tests.{eq-eqb, ne-eqb}
-use lib.Dec.{eqb, ltb}
+use lib.Dec.{T, eqb, ltb}
 use lib.ListN.{drop, getD, length, length-replicate, replicate, take}
 use lib.Pow.{shr-shr}
 use Rattle.morphology.specs.Element.{bit}
-use Rattle.raster.specs.Rows.{join, rowBit, RowIs, RowJoined}
+use Rattle.raster.specs.Rows.{Flipped, join, rowBit, RowIs, RowJoined}
 use Rattle.raster.proofs.PartLaws.{PartIs, part-back, part-bit}
-use Rattle.raster.proofs.RowLaws.{row-in, rowBit-same}
-use Rattle.planes.specs.Neighbours.{Begun, NearRow, PlaneIs, PlaneJoined, RowsTo, elementAsks, fiveOf, joined, nearBit, neighbours, rowAsks, startByte, turned}
+use Rattle.raster.proofs.RowLaws.{flipped-bit, flipped-twice, row-in, rowBit-same}
+use Rattle.planes.specs.Neighbours.{Begun, Margins, NearRow, PlaneIs, PlaneJoined, RowsTo, elementAsks, fiveOf, joined, nearBit, neighbours, rowAsks, source, sourceBit, startByte, turned}
 use Rattle.planes.proofs.NeighbourLaws.{five-idle, join-assoc, join-comm, join-unit, joined-more, joined-unit, near-same, start-bit, turned-lt, unit-join}
 
 -- ---- joining many
@@ -223,30 +223,79 @@ asks-rest t p r h e rest k Y buf u v l q o a =
     none : (y x i : ℕ) → k ≤ i → rowAsks t e (rowBit buf) Y y x i ≡ not t
     none y x i li = idle t (eqb (y + turned t i) Y) (e / 2 ^ (i * 5)) (rowBit buf) x (ap (λ (n : ℕ). n % 32) (gone i li))
 
--- the row in the buffer is row Y - 2 of the first plane
-pub asks-near : (t : Bool) (p r h e Y : ℕ) (buf u v : List ℕ) → NearRow u r h Y buf
-    → PlaneJoined t p r h u v (λ y x. elementAsks t e (rowBit buf) Y y x)
-    → PlaneJoined t p r h u v (λ y x. elementAsks t e (λ X. nearBit u r h X Y) Y y x)
-asks-near t p r h e Y buf u v n a =
-    plane-same a (λ y x l i. join t (rowBit u (8 * (p + y * r) + x)) (elementAsks t e (λ X. n .pixels X i) Y y x))
+-- an element at x asks for the pixels of a row up to x + 10
+asks-within : (t : Bool) (e Y y x : ℕ) (f g : ℕ → Bool) → ((X : ℕ) → X < x + 11 → f X ≡ g X) → elementAsks t e f Y y x ≡ elementAsks t e g Y y x
+unfolding fiveOf
+asks-within t e Y y x f g h =
+    joined-same t 5 (rowAsks t e f Y y x) (rowAsks t e g Y y x) (λ k lk.
+    ap (λ (b : Bool). cond (eqb (y + turned t k) Y) b (not t))
+    (joined-same t 5 (λ j. cond (bit (e / 2 ^ (k * 5)) j) (f (x + (turned t j + 6))) (not t)) (λ j. cond (bit (e / 2 ^ (k * 5)) j) (g (x + (turned t j + 6))) (not t)) (λ j lj.
+    ap (λ (b : Bool). cond (bit (e / 2 ^ (k * 5)) j) b (not t)) (h (x + (turned t j + 6)) (omega (arith, turned-lt t j lj))))))
+
+-- the row in the buffer is row Y - 2 of the source, exchanged or not
+pub asks-source : (t i : Bool) (p r h e Y : ℕ) (plane b b′ u v : List ℕ) → NearRow plane r h Y b → Flipped i (r + 2) b b′
+    → PlaneJoined t p r h u v (λ y x. elementAsks t e (rowBit b′) Y y x)
+    → PlaneJoined t p r h u v (λ y x. elementAsks t e (λ X. sourceBit i plane r h X Y) Y y x)
+asks-source t i p r h e Y plane b b′ u v n f a = record {
+  size = a .size;
+  before = a .before;
+  after = a .after;
+  pixels = λ y x ly lx.
+      a .pixels y x ly lx
+      ∙ ap (join t (rowBit u (8 * (p + y * r) + x)))
+      (asks-within t e Y y x (rowBit b′) (λ X. sourceBit i plane r h X Y) (λ X l.
+      flipped-bit i (r + 2) b b′ f X (omega arith) ∙ ap (λ (c : Bool). cond i (not c) c) (n .pixels X)));
+}
+
+-- the row comes from the one or the other
+pub near-own : (own : Bool) (r h Y : ℕ) (image w b : List ℕ) → own ≡ true → NearRow w r h Y b → NearRow (source own image w) r h Y b
+near-own true r h Y image w b e n = n
+near-own false r h Y image w b e n = absurd (subst T (sym e) tt)
+
+pub near-other : (own : Bool) (r h Y : ℕ) (image w b : List ℕ) → own ≡ false → NearRow image r h Y b → NearRow (source own image w) r h Y b
+near-other true r h Y image w b e n = absurd (subst T e tt)
+near-other false r h Y image w b e n = n
+
+-- the row buffer exchanged and back
+pub margins-back : (i : Bool) (r n : ℕ) (b b′ c : List ℕ) → Margins r b → Flipped i n b b′ → Flipped i n b′ c → Margins r c
+margins-back i r n b b′ c m f g = record {
+  size = g .size ∙ f .size ∙ m .size;
+  first = back 0 (m .first);
+  after = λ j l. back j (m .after j l);
+}
+  where
+    back : (j : ℕ) → getD b j 0 ≡ 0 → getD c j 0 ≡ 0
+    back j z = flipped-twice i n b b′ c f g j (omega (arith, z)) ∙ z
+
+-- the source has room
+pub source-fits : (own : Bool) (n p : ℕ) (image w : List ℕ) → n ≤ cond own p (length image) → p + n ≤ length w → n ≤ length (source own image w)
+source-fits true n p image w h k = omega arith
+source-fits false n p image w h k = h
 
 -- one row of the source more
-pub source-more : (t : Bool) (p r h e Y : ℕ) (u v w : List ℕ) → h * r ≤ p
-    → PlaneJoined t p r h u v (λ y x. joined t Y (λ Y. elementAsks t e (λ X. nearBit u r h X Y) Y y x))
-    → PlaneJoined t p r h v w (λ y x. elementAsks t e (λ X. nearBit v r h X Y) Y y x)
-    → PlaneJoined t p r h u w (λ y x. joined t (Y + 1) (λ Y. elementAsks t e (λ X. nearBit u r h X Y) Y y x))
-source-more t p r h e Y u v w hp a b =
+pub source-more : (t i own : Bool) (p r h e Y : ℕ) (image u v w : List ℕ) → h * r ≤ cond own p (length image)
+    → PlaneJoined t p r h u v (λ y x. joined t Y (λ Y. elementAsks t e (λ X. sourceBit i (source own image u) r h X Y) Y y x))
+    → PlaneJoined t p r h v w (λ y x. elementAsks t e (λ X. sourceBit i (source own image v) r h X Y) Y y x)
+    → PlaneJoined t p r h u w (λ y x. joined t (Y + 1) (λ Y. elementAsks t e (λ X. sourceBit i (source own image u) r h X Y) Y y x))
+source-more t i own p r h e Y image u v w hp a b =
     plane-same
-    (plane-more t p r h u v w (λ y x. joined t Y (λ Y. elementAsks t e (λ X. nearBit u r h X Y) Y y x)) (λ y x. elementAsks t e (λ X. nearBit v r h X Y) Y y x) a b)
+    (plane-more t p r h u v w (λ y x. joined t Y (λ Y. elementAsks t e (near u Y) Y y x)) (λ y x. elementAsks t e (near v Y) Y y x) a b)
     (λ y x l. ap (join t (rowBit u (8 * (p + y * r) + x)))
-    ((λ i. join t (joined t Y (λ Y. elementAsks t e (λ X. nearBit u r h X Y) Y y x)) (elementAsks t e (λ X. near-same v u r h (λ j z. a .before j (omega arith)) X Y i) Y y x))
-    ∙ sym (joined-more t Y (λ Y. elementAsks t e (λ X. nearBit u r h X Y) Y y x))))
+    ((λ k. join t (joined t Y (λ Y. elementAsks t e (near u Y) Y y x)) (elementAsks t e (λ X. ap (λ (c : Bool). cond i (not c) c) (same own hp X) k) Y y x))
+    ∙ sym (joined-more t Y (λ Y. elementAsks t e (near u Y) Y y x))))
+  where
+    near : List ℕ → ℕ → ℕ → Bool
+    near s Y X = sourceBit i (source own image s) r h X Y
 
-pub source-done : (t : Bool) (p r h e n : ℕ) (u v : List ℕ) → n ≡ h + 4
-    → PlaneJoined t p r h u v (λ y x. joined t n (λ Y. elementAsks t e (λ X. nearBit u r h X Y) Y y x))
-    → PlaneJoined t p r h u v (λ y x. neighbours t e (nearBit u r h) x y)
-source-done t p r h e n u v en a =
-    plane-same a (λ y x l. ap (join t (rowBit u (8 * (p + y * r) + x))) (all-asked t e h x y n (nearBit u r h) l en))
+    same : (o : Bool) → h * r ≤ cond o p (length image) → (X : ℕ) → nearBit (source o image v) r h X Y ≡ nearBit (source o image u) r h X Y
+    same true q X = near-same v u r h (λ j z. a .before j (omega arith)) X Y
+    same false q X = refl
+
+pub source-done : (t i own : Bool) (p r h e n : ℕ) (image u v : List ℕ) → n ≡ h + 4
+    → PlaneJoined t p r h u v (λ y x. joined t n (λ Y. elementAsks t e (λ X. sourceBit i (source own image u) r h X Y) Y y x))
+    → PlaneJoined t p r h u v (λ y x. neighbours t e (sourceBit i (source own image u) r h) x y)
+source-done t i own p r h e n image u v en a =
+    plane-same a (λ y x l. ap (join t (rowBit u (8 * (p + y * r) + x))) (all-asked t e h x y n (sourceBit i (source own image u) r h) l en))
 
 -- ---- begun and cut off
 

@@ -19,6 +19,14 @@ pub record Margins (r : ℕ) (b : List ℕ) : Type 0 where
 unfoldable pub nearBit : List ℕ → ℕ → ℕ → ℕ → ℕ → Bool
 nearBit plane r h X Y = leb 2 Y && (ltb (Y - 2) h && (leb 8 X && (ltb X (8 * r + 8) && rowBit plane (8 * ((Y - 2) * r) + (X - 8)))))
 
+-- where the pixels come from: the first plane of a work buffer, or an image
+abbrev pub source : Bool → List ℕ → List ℕ → List ℕ
+source own image work = cond own work image
+
+-- the same with foreground and background exchanged, outside as well
+abbrev pub sourceBit : Bool → List ℕ → ℕ → ℕ → ℕ → ℕ → Bool
+sourceBit inverse plane r h X Y = cond inverse (not (nearBit plane r h X Y)) (nearBit plane r h X Y)
+
 -- there is a row Y - 2
 abbrev pub isNear : ℕ → ℕ → Bool
 isNear h Y = leb 2 Y && ltb (Y - 2) h

@@ -2,16 +2,16 @@ pub mod extent;
 pub mod refusals;
 
 ghost use mathlib.Core.Path.{_≡_};
-ghost use mathlib.Core.Bool.{not, _&&_, cond};
+ghost use mathlib.Core.Bool.{not, _&&_, cond, false};
 ghost use Prim.Native.Nat.{_+_, _*_, _<_, _≤_};
 ghost use lib.Dec.{eqb, ltb, T};
 ghost use lib.ListN.{length};
 ghost use Rattle.morphology.specs.Element.{offsets, bit};
 ghost use Rattle.morphology.specs.Image.{imageSet, pack, isClean, clip};
 ghost use Rattle.morphology.specs.Morphology.{erode, dilate, opening};
-ghost use Rattle.raster.specs.Rows.{rowBit, overwrite, RowJoined};
+ghost use Rattle.raster.specs.Rows.{rowBit, overwrite, Flipped, RowJoined};
 ghost use Rattle.planes.specs.Frames.{Frame};
-ghost use Rattle.planes.specs.Neighbours.{nearBit, isNear, Margins, NearRow, turned, startByte, fiveOf, elementAsks, neighbours, PlaneIs, PlaneJoined, Begun, RowsTo};
+ghost use Rattle.planes.specs.Neighbours.{nearBit, isNear, Margins, NearRow, turned, startByte, fiveOf, elementAsks, neighbours, source, sourceBit, PlaneIs, PlaneJoined, Begun, RowsTo};
 
 // Whether a plane of h rows has a row yk - 2.
 fn is_near(h: usize, yk: usize) -> bool
@@ -24,7 +24,7 @@ fn is_near(h: usize, yk: usize) -> bool
 }
 
 // Row yk - 2 of a plane, or background where there is no such row, into the row buffer.
-pub fn load_near(plane: &[u8], r: usize, h: usize, yk: usize, buf: &mut [u8])
+fn load_near(plane: &[u8], r: usize, h: usize, yk: usize, buf: &mut [u8])
     requires { ⌜ (h * r ≤ length (now plane)) × (r ≤ 128) × Margins r (now buf) ⌝ }
     ensures { λ _. ⌜ NearRow (now (plane .entry)) r h yk (now (buf .exit)) ⌝ }
 {
@@ -34,6 +34,28 @@ pub fn load_near(plane: &[u8], r: usize, h: usize, yk: usize, buf: &mut [u8])
     }
     let at = (yk - 2) * r;
     raster::copy(&plane[at..at + r], &mut buf[1..r + 1]);
+}
+
+// The same of the first plane of work, or of an image.
+fn load_source(own: bool, image: &[u8], work: &[u8], r: usize, h: usize, yk: usize, buf: &mut [u8])
+    requires { ⌜ (h * r ≤ length (source own (now image) (now work))) × (r ≤ 128) × Margins r (now buf) ⌝ }
+    ensures { λ _. ⌜ NearRow (source own (now (image .entry)) (now (work .entry))) r h yk (now (buf .exit)) ⌝ }
+{
+    if own {
+        load_near(work, r, h, yk, buf);
+        return;
+    }
+    load_near(image, r, h, yk, buf);
+}
+
+// Foreground and background of the first n bytes exchanged, where inverse says so.
+fn flip_if(inverse: bool, n: usize, buf: &mut [u8])
+    requires { ⌜ n ≤ length (now buf) ⌝ }
+    ensures { λ _. ⌜ Flipped inverse n (now (buf .entry)) (now (buf .exit)) ⌝ }
+{
+    if inverse {
+        raster::flip(&mut buf[..n]);
+    }
 }
 
 // The offset k - 2 as k; in a dilation its negative.
@@ -115,7 +137,7 @@ fn scatter_five(
 }
 
 // Joins the row yk - 2 in buf to each row of the plane at p that asks for it.
-pub fn scatter_row(
+fn scatter_row(
     dilating: bool,
     work: &mut [u8],
     p: usize,
@@ -140,9 +162,12 @@ pub fn scatter_row(
     }
 }
 
-// Joins row yk - 2 of the first plane to each row of the plane at p that asks for it.
+// Joins row yk - 2 of the source to each row of the plane at p that asks for it. Outside the source is background, exchanged with it.
 fn scatter_near(
     dilating: bool,
+    inverse: bool,
+    own: bool,
+    image: &[u8],
     work: &mut [u8],
     p: usize,
     r: usize,
@@ -151,25 +176,57 @@ fn scatter_near(
     element: u32,
     buf: &mut [u8],
 )
-    requires { ⌜ (h * r ≤ p) × (p + h * r ≤ length (now work)) × (r ≤ 128) × Margins r (now buf) ⌝ }
-    ensures plane { λ _. ⌜ PlaneJoined dilating p r h (now (work .entry)) (now (work .exit)) (λ y x. elementAsks dilating element (λ X. nearBit (now (work .entry)) r h X yk) yk y x) ⌝ }
+    requires { ⌜ (h * r ≤ length (source own (now image) (now work))) × (p + h * r ≤ length (now work)) × (r ≤ 128) × Margins r (now buf) ⌝ }
+    ensures plane { λ _. ⌜ PlaneJoined dilating p r h (now (work .entry)) (now (work .exit)) (λ y x. elementAsks dilating element (λ X. sourceBit inverse (source own (now (image .entry)) (now (work .entry))) r h X yk) yk y x) ⌝ }
     ensures margins { λ _. ⌜ Margins r (now (buf .exit)) ⌝ }
 {
-    load_near(&work[..], r, h, yk, buf);
+    load_source(own, image, &work[..], r, h, yk, buf);
+    flip_if(inverse, r + 2, buf);
     scatter_row(dilating, work, p, r, h, yk, element, &buf[..]);
+    flip_if(inverse, r + 2, buf);
 }
 
-// Joins the whole element to each row of the plane at p.
-fn scatter_plane(dilating: bool, work: &mut [u8], p: usize, r: usize, h: usize, element: u32)
-    requires { ⌜ (h * r ≤ p) × (p + h * r ≤ length (now work)) × (r ≤ 128) × (h ≤ 1024) ⌝ }
-    ensures { λ _. ⌜ PlaneJoined dilating p r h (now (work .entry)) (now (work .exit)) (λ y x. neighbours dilating element (nearBit (now (work .entry)) r h) x y) ⌝ }
+// Joins what the element asks of the source, the first plane of work or an image, to each row of the plane at p.
+fn scatter_plane(
+    dilating: bool,
+    inverse: bool,
+    own: bool,
+    image: &[u8],
+    work: &mut [u8],
+    p: usize,
+    r: usize,
+    h: usize,
+    element: u32,
+)
+    requires { ⌜ (h * r ≤ cond own p (length (now image))) × (p + h * r ≤ length (now work)) × (r ≤ 128) × (h ≤ 1024) ⌝ }
+    ensures { λ _. ⌜ PlaneJoined dilating p r h (now (work .entry)) (now (work .exit)) (λ y x. neighbours dilating element (sourceBit inverse (source own (now (image .entry)) (now (work .entry))) r h) x y) ⌝ }
 {
     let mut buf = [0u8; 130];
     let mut yk: usize = 0;
     while yk < h + 4 {
-        scatter_near(dilating, work, p, r, h, yk, element, &mut buf);
+        scatter_near(
+            dilating,
+            inverse,
+            own,
+            image,
+            work,
+            p,
+            r,
+            h,
+            yk,
+            element,
+            &mut buf,
+        );
         yk = yk + 1;
     }
+}
+
+// Joins what a mask asks of an image to each row of out: its element of the foreground, or, inverse, of the background.
+pub fn join_mask(inverse: bool, image: &[u8], out: &mut [u8], r: usize, h: usize, element: u32)
+    requires { ⌜ (h * r ≤ length (now image)) × (h * r ≤ length (now out)) × (r ≤ 128) × (h ≤ 1024) ⌝ }
+    ensures { λ _. ⌜ PlaneJoined false 0 r h (now (out .entry)) (now (out .exit)) (λ y x. neighbours false element (sourceBit inverse (now (image .entry)) r h) x y) ⌝ }
+{
+    scatter_plane(false, inverse, false, image, out, 0, r, h, element);
 }
 
 // What a row begins with: background before a dilation, foreground before an erosion.
@@ -223,7 +280,8 @@ fn morph_plane(
     ensures { λ _. ⌜ RowsTo dilating h p w r h element (now (work .entry)) (now (work .exit)) ⌝ }
 {
     let rest = begin_plane(dilating, work, p, r, h, element);
-    scatter_plane(dilating, work, p, r, h, rest);
+    let none = [0u8; 1];
+    scatter_plane(dilating, false, true, &none, work, p, r, h, rest);
     clear_rows(work, p, w, r, h);
 }
 

@@ -1,16 +1,17 @@
 -- Pixels of rows.
-use mathlib.Core.Bool.{Bool, _&&_, not}
+use mathlib.Core.Bool.{Bool, _&&_, cond, false, not, true}
 use mathlib.Core.List.{List}
-use mathlib.Core.Path.{_∙_, _≡_, ap, ap₂, sym}
+use mathlib.Core.Path.{_∙_, _≡_, ap, ap₂, refl, subst, sym}
 use Prim.Native.Nat.{_%_, _*_, _+_, _-_, _/_, _<_, _≤_, ℕ}
 use native.Mathlib.Decide.{decLt}
 use native.Mathlib.Nat.{le-refl, mul-le-mul-right, suc-mul}
 use native.Mathlib.Omega.{arith}
 use lib.Bits.{bitAnd, bitXor}
-use lib.Dec.{eqb}
+use lib.Dec.{T, eqb, eqb→eq}
 use lib.ListN.{getD, length}
 use Rattle.morphology.specs.Image.{bitOf}
-use Rattle.raster.specs.Rows.{Pixelwise, RowJoined, join, joinByte, rowBit}
+use Rattle.morphology.proofs.TestLaws.{upto-out}
+use Rattle.raster.specs.Rows.{Flipped, Pixelwise, RowJoined, join, joinByte, rowBit}
 use Rattle.raster.proofs.ByteLaws.{inverted-bit, join-bit, less-bit, moved-bit, movedByte, win, win-left, win-right}
 use Rattle.raster.proofs.LoopLaws.{Mapped}
 
@@ -86,12 +87,35 @@ row-subtracted src old new n h m =
     mapped-pixels old new (λ j. bitAnd (getD old j 0) (bitXor (getD src j 0) 255)) (λ x b. b && not (rowBit src x)) n h m (λ i k hi hk.
     less-bit (getD old i 0) (getD src i 0) k hk ∙ ap (λ (c : Bool). bitOf (getD old i 0) k && not c) (sym (rowBit-at src i k hk)))
 
--- the end of `invert`
-pub row-inverted : (src old new : List ℕ) (n : ℕ) → length old ≤ n → Mapped (λ j. bitXor (getD src j 0) 255) old new n
-    → Pixelwise old new (λ x b. not (rowBit src x))
-row-inverted src old new n h m =
-    mapped-pixels old new (λ j. bitXor (getD src j 0) 255) (λ x b. not (rowBit src x)) n h m
-    (λ i k hi hk. inverted-bit (getD src i 0) k hk ∙ ap not (sym (rowBit-at src i k hk)))
+-- the end of `flip`
+pub row-flipped : (old new : List ℕ) (n : ℕ) → n ≡ length old → Mapped (λ j. bitXor (getD old j 0) 255) old new n → Flipped true (length old) old new
+row-flipped old new n h m = record { size = m .size; places = λ j l. m .done j (omega arith); after = λ j l. m .rest j (omega arith) }
+
+pub flipped-on : (t : Bool) (n : ℕ) (old new : List ℕ) → t ≡ true → Flipped true n old new → Flipped t n old new
+flipped-on true n old new e f = f
+flipped-on false n old new e f = absurd (subst T (sym e) tt)
+
+pub flipped-off : (t : Bool) (n : ℕ) (old : List ℕ) → t ≡ false → Flipped t n old old
+flipped-off true n old e = absurd (subst T e tt)
+flipped-off false n old e = record { size = refl; places = λ j l. refl; after = λ j l. refl }
+
+-- the pixels
+pub flipped-bit : (t : Bool) (n : ℕ) (old new : List ℕ) → Flipped t n old new → (x : ℕ) → x < 8 * n → rowBit new x ≡ cond t (not (rowBit old x)) (rowBit old x)
+unfolding rowBit
+flipped-bit true n old new f x l = ap (λ (n : ℕ). bitOf n (x % 8)) (f .places (x / 8) (omega arith)) ∙ inverted-bit (getD old (x / 8) 0) (x % 8) (omega arith)
+flipped-bit false n old new f x l = ap (λ (n : ℕ). bitOf n (x % 8)) (f .places (x / 8) (omega arith))
+
+twice : (b : ℕ) → b < 256 → bitXor (bitXor b 255) 255 ≡ b
+twice b h = eqb→eq (bitXor (bitXor b 255) 255) b (upto-out (λ b. eqb (bitXor (bitXor b 255) 255) b) 256 b h tt)
+
+-- exchanged twice
+pub flipped-twice : (t : Bool) (n : ℕ) (a b c : List ℕ) → Flipped t n a b → Flipped t n b c → (j : ℕ) → getD a j 0 < 256 → getD c j 0 ≡ getD a j 0
+flipped-twice t n a b c f g j h = by t f g (decLt j n)
+  where
+    by : (t : Bool) → Flipped t n a b → Flipped t n b c → Dec (j < n) → getD c j 0 ≡ getD a j 0
+    by true f g (yes l) = g .places j l ∙ ap (λ (n : ℕ). bitXor n 255) (f .places j l) ∙ twice (getD a j 0) h
+    by false f g (yes l) = g .places j l ∙ f .places j l
+    by t f g (no l) = g .after j (omega arith) ∙ f .after j (omega arith)
 
 -- ---- a row within a buffer of rows
 

@@ -1,12 +1,12 @@
 ghost use mathlib.Core.Path.{_≡_};
-ghost use mathlib.Core.Bool.{_&&_, not};
+ghost use mathlib.Core.Bool.{_&&_, not, true};
 ghost use mathlib.Core.List.{_++_};
 ghost use Prim.Native.Nat.{ℕ, _+_, _*_, _<_, _≤_, _^_};
 ghost use lib.Dec.{ltb, eqb};
 ghost use lib.ListN.{length, getD, replicate, take, drop};
 ghost use Rattle.morphology.specs.Image.{stride, isClean, onesOf, pixel as pixelOf};
 ghost use Rattle.morphology.specs.Lists.{any, all, upTo};
-ghost use Rattle.raster.specs.Rows.{rowBit, joinByte, Pixelwise, RowIs, RowJoined, Summed, sumOf};
+ghost use Rattle.raster.specs.Rows.{rowBit, joinByte, Flipped, Pixelwise, RowIs, RowJoined, Summed, sumOf};
 
 // Two bytes joined pixel by pixel: by or in a dilation, by and in an erosion.
 fn join(dilating: bool, a: u8, b: u8) -> u8
@@ -116,14 +116,13 @@ pub fn subtract(src: &[u8], dst: &mut [u8])
     }
 }
 
-// dst becomes src with foreground and background exchanged.
-pub fn invert(src: &[u8], dst: &mut [u8])
-    requires { ⌜ length (now src) ≡ length (now dst) ⌝ }
-    ensures { λ _. ⌜ Pixelwise (now (dst .entry)) (now (dst .exit)) (λ x b. not (rowBit (now (src .entry)) x)) ⌝ }
+// Foreground and background of all bytes exchanged.
+pub fn flip(s: &mut [u8])
+    ensures { λ _. ⌜ Flipped true (length (now (s .entry))) (now (s .entry)) (now (s .exit)) ⌝ }
 {
     let mut i: usize = 0;
-    while i < dst.len() {
-        dst[i] = src[i] ^ 255;
+    while i < s.len() {
+        s[i] = s[i] ^ 255;
         i = i + 1;
     }
 }

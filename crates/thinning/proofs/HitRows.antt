@@ -1,4 +1,4 @@
--- What a mask asks, row by row, and the plane of its hits.
+-- What a mask asks, and the plane of its hits.
 use mathlib.Core.Bool.{Bool, _&&_, cond, false, not, true}
 use mathlib.Core.List.{List, _∷_}
 use mathlib.Core.Path.{_∙_, _≡_, ap, ap₂, refl, subst, sym}
@@ -14,63 +14,23 @@ use Rattle.morphology.specs.Morphology.{erode}
 use Rattle.morphology.specs.Point.{Point, _⊞_, at}
 use Rattle.morphology.specs.Thinning.{hit}
 use Rattle.morphology.proofs.TestLaws.{upto, upto-out}
-use Rattle.raster.specs.Rows.{Pixelwise, rowBit}
+use Rattle.raster.specs.Rows.{rowBit}
 use Rattle.planes.specs.Frames.{Frame}
-use Rattle.planes.specs.Neighbours.{NearRow, PlaneJoined, elementAsks, fiveOf, joined, nearBit, neighbours, rowAsks, turned}
+use Rattle.planes.specs.Neighbours.{PlaneJoined, nearBit, neighbours, sourceBit}
 use Rattle.planes.proofs.CentreLaws.{near-itself, origin-less}
-use Rattle.planes.proofs.NeighbourLaws.{joined-more, turned-lt}
 use Rattle.planes.proofs.PlaneLaws.{frame-bytes}
-use Rattle.planes.proofs.ScatterLaws.{all-asked, joined-same, joined-two, plane-more, plane-same}
+use Rattle.planes.proofs.ScatterLaws.{plane-more}
 use Rattle.planes.proofs.SetLaws.{near-image, neighbours-set, pack-pixels}
-use Rattle.thinning.specs.Hits.{hits, rowHits, widened}
+use Rattle.thinning.specs.Hits.{hits, widened}
 use Rattle.thinning.proofs.MaskLaws.{Accepted, mask-of}
 
--- ---- one row of an image
-
--- an element at x asks for the pixels of a row up to x + 10
-asks-within : (t : Bool) (e Y y x : ℕ) (f g : ℕ → Bool) → ((X : ℕ) → X < x + 11 → f X ≡ g X) → elementAsks t e f Y y x ≡ elementAsks t e g Y y x
-unfolding fiveOf
-asks-within t e Y y x f g h =
-    joined-same t 5 (rowAsks t e f Y y x) (rowAsks t e g Y y x) (λ k lk.
-    ap (λ (b : Bool). cond (eqb (y + turned t k) Y) b (not t))
-    (joined-same t 5 (λ j. cond (bit (e / 2 ^ (k * 5)) j) (f (x + (turned t j + 6))) (not t)) (λ j. cond (bit (e / 2 ^ (k * 5)) j) (g (x + (turned t j + 6))) (not t)) (λ j lj.
-    ap (λ (b : Bool). cond (bit (e / 2 ^ (k * 5)) j) b (not t)) (h (x + (turned t j + 6)) (omega (arith, turned-lt t j lj))))))
-
--- what the elements ask of the row in one buffer and of the row inverted in the other
-pub row-hits : (r h fg bg Y : ℕ) (image row inverse₀ inverse u v w : List ℕ) → r ≤ 128 → length inverse₀ ≡ 130 → NearRow image r h Y row
-    → PlaneJoined false 0 r h u v (λ y x. elementAsks false fg (rowBit row) Y y x)
-    → Pixelwise inverse₀ inverse (λ x b. not (rowBit row x))
-    → PlaneJoined false 0 r h v w (λ y x. elementAsks false bg (rowBit inverse) Y y x)
-    → PlaneJoined false 0 r h u w (λ y x. rowHits fg bg (nearBit image r h) Y y x)
-row-hits r h fg bg Y image row inverse₀ inverse u v w hr len near a inverted b = record {
-  size = b .size ∙ a .size;
-  before = λ j l. b .before j l ∙ a .before j l;
-  after = λ j l. b .after j l ∙ a .after j l;
-  pixels = λ y x ly lx.
-      plane-more false 0 r h u v w (λ y x. elementAsks false fg (rowBit row) Y y x) (λ y x. elementAsks false bg (rowBit inverse) Y y x) a b .pixels y x ly lx
-      ∙ ap (λ (c : Bool). rowBit u (8 * (0 + y * r) + x) && c)
-      (ap₂ (λ (c d : Bool). c && d)
-      (asks-within false fg Y y x (rowBit row) (λ X. nearBit image r h X Y) (λ X l. near .pixels X))
-      (asks-within false bg Y y x (rowBit inverse) (λ X. not (nearBit image r h X Y)) (λ X l. inverted .pixels X (omega arith) ∙ ap not (near .pixels X))));
-}
-
--- ---- all rows
-
--- one row of the image more
-pub rows-more : (r h fg bg Y : ℕ) (near : ℕ → ℕ → Bool) (u v w : List ℕ)
-    → PlaneJoined false 0 r h u v (λ y x. joined false Y (λ Y. rowHits fg bg near Y y x))
-    → PlaneJoined false 0 r h v w (λ y x. rowHits fg bg near Y y x)
-    → PlaneJoined false 0 r h u w (λ y x. joined false (Y + 1) (λ Y. rowHits fg bg near Y y x))
-rows-more r h fg bg Y near u v w a b =
-    plane-same (plane-more false 0 r h u v w (λ y x. joined false Y (λ Y. rowHits fg bg near Y y x)) (λ y x. rowHits fg bg near Y y x) a b)
-    (λ y x l. ap (λ (c : Bool). rowBit u (8 * (0 + y * r) + x) && c) (sym (joined-more false Y (λ Y. rowHits fg bg near Y y x))))
-
-pub rows-done : (r h fg bg n : ℕ) (near : ℕ → ℕ → Bool) (u v : List ℕ) → n ≡ h + 4
-    → PlaneJoined false 0 r h u v (λ y x. joined false n (λ Y. rowHits fg bg near Y y x)) → PlaneJoined false 0 r h u v (λ y x. hits fg bg near x y)
-rows-done r h fg bg n near u v en a =
-    plane-same a (λ y x l. ap (λ (c : Bool). rowBit u (8 * (0 + y * r) + x) && c)
-    (joined-two false n (λ Y. elementAsks false fg (λ X. near X Y) Y y x) (λ Y. elementAsks false bg (λ X. not (near X Y)) Y y x)
-    ∙ ap₂ (λ (c d : Bool). c && d) (all-asked false fg h x y n near l en) (all-asked false bg h x y n (λ X Y. not (near X Y)) l en)))
+-- what is asked of the foreground joined, then what is asked of the background
+pub both-asked : (r h fg bg : ℕ) (image u v w : List ℕ)
+    → PlaneJoined false 0 r h u v (λ y x. neighbours false fg (sourceBit false image r h) x y)
+    → PlaneJoined false 0 r h v w (λ y x. neighbours false bg (sourceBit true image r h) x y)
+    → PlaneJoined false 0 r h u w (λ y x. hits fg bg (nearBit image r h) x y)
+both-asked r h fg bg image u v w a b =
+    plane-more false 0 r h u v w (λ y x. neighbours false fg (nearBit image r h) x y) (λ y x. neighbours false bg (λ X Y. not (nearBit image r h X Y)) x y) a b
 
 -- ---- a mask's number as an element's
 

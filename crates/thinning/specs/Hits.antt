@@ -2,16 +2,12 @@
 -- Definitions only; proofs/HitRows.antt has the laws.
 use mathlib.Core.Bool.{Bool, _&&_, false, not}
 use Prim.Native.Nat.{_%_, _*_, _+_, _/_, ℕ}
-use Rattle.planes.specs.Neighbours.{elementAsks, neighbours}
+use Rattle.planes.specs.Neighbours.{neighbours}
 
 -- a mask's number as an element's: three bits of each row in the middle of five (`widened-offsets`)
 abbrev pub widened : ℕ → ℕ
 widened m = m % 8 * 64 + m / 8 % 8 * 2048 + m / 64 * 65536
 
--- what the elements fg and bg ask at (x, y) of the row Y - 2 alone
-abbrev pub rowHits : ℕ → ℕ → (ℕ → ℕ → Bool) → ℕ → ℕ → ℕ → Bool
-rowHits fg bg near Y y x = elementAsks false fg (λ X. near X Y) Y y x && elementAsks false bg (λ X. not (near X Y)) Y y x
-
--- what they ask at (x, y)
+-- what the elements fg and bg ask at (x, y)
 abbrev pub hits : ℕ → ℕ → (ℕ → ℕ → Bool) → ℕ → ℕ → Bool
 hits fg bg near x y = neighbours false fg near x y && neighbours false bg (λ X Y. not (near X Y)) x y

@@ -11,9 +11,8 @@ ghost use Rattle.morphology.specs.Operations.{hitOrMiss, hitRows, thinRows, thi
 ghost use Rattle.morphology.specs.Refusals.{firstRefusal, row6};
 ghost use Rattle.morphology.specs.Thinning.{hit, golayL, thinStep, thinPass};
 ghost use Rattle.planes.specs.Frames.{Frame};
-ghost use Rattle.planes.specs.Neighbours.{nearBit, Margins, PlaneJoined};
 ghost use Rattle.steps.specs.Steps.{Sheet};
-ghost use Rattle.thinning.specs.Hits.{widened, rowHits, hits};
+ghost use Rattle.thinning.specs.Hits.{widened};
 ghost use Rattle.thinning.specs.Passes.{Leaves, Ended};
 ghost use Rattle.thinning.specs.Hit.{answerOf};
 ghost use Rattle.thinning.specs.Thinned.{answerOf as thinnedAnswer};
@@ -80,49 +79,14 @@ fn widen(mask: u32) -> u32
     mask % 8 * 64 + mask / 8 % 8 * 2048 + mask / 64 * 65536
 }
 
-// Joins what the elements fg and bg ask of row yk - 2 of an image to each row of out that asks for it. Outside the image is background: 0 in row, 1 in its inverse.
-fn hit_near(
-    image: &[u8],
-    out: &mut [u8],
-    r: usize,
-    h: usize,
-    yk: usize,
-    fg: u32,
-    bg: u32,
-    row: &mut [u8],
-    inverse: &mut [u8],
-)
-    requires { ⌜ (h * r ≤ length (now image)) × (h * r ≤ length (now out)) × (r ≤ 128) × Margins r (now row) × (length (now inverse) ≡ 130) ⌝ }
-    ensures plane { λ _. ⌜ PlaneJoined false 0 r h (now (out .entry)) (now (out .exit)) (λ y x. rowHits fg bg (nearBit (now (image .entry)) r h) yk y x) ⌝ }
-    ensures margins { λ _. ⌜ Margins r (now (row .exit)) ⌝ }
-{
-    planes::load_near(image, r, h, yk, row);
-    raster::invert(&row[..], inverse);
-    planes::scatter_row(false, out, 0, r, h, yk, fg, &row[..]);
-    planes::scatter_row(false, out, 0, r, h, yk, bg, &inverse[..]);
-}
-
-// Joins what the elements fg and bg ask of an image to each row of out.
-fn hit_rows(image: &[u8], out: &mut [u8], r: usize, h: usize, fg: u32, bg: u32)
-    requires { ⌜ (h * r ≤ length (now image)) × (h * r ≤ length (now out)) × (r ≤ 128) × (h ≤ 1024) ⌝ }
-    ensures { λ _. ⌜ PlaneJoined false 0 r h (now (out .entry)) (now (out .exit)) (λ y x. hits fg bg (nearBit (now (image .entry)) r h) x y) ⌝ }
-{
-    let mut row = [0u8; 130];
-    let mut inverse = [0u8; 130];
-    let mut yk: usize = 0;
-    while yk < h + 4 {
-        hit_near(image, out, r, h, yk, fg, bg, &mut row, &mut inverse);
-        yk = yk + 1;
-    }
-}
-
-// The points of an image that a mask hits. The centre is foreground, so that out begins with the image.
+// The points of an image that a mask hits. The centre is foreground, so that out begins with the image. Outside is background.
 fn hit_plane(w: usize, h: usize, r: usize, fg: u32, bg: u32, image: &[u8], out: &mut [u8])
     requires { ⌜ Frame w h r × (length (now image) ≡ h * r) × (length (now out) ≡ h * r) × T (isMask (fg, bg)) × T (isClean w h (now image)) ⌝ }
     ensures { λ _. ⌜ now (out .exit) ≡ pack w h (hit (fg, bg) (imageSet w h (now (image .entry)))) ⌝ }
 {
     raster::copy(image, out);
-    hit_rows(image, out, r, h, widen(fg) - ORIGIN, widen(bg));
+    planes::join_mask(false, image, out, r, h, widen(fg) - ORIGIN);
+    planes::join_mask(true, image, out, r, h, widen(bg));
 }
 
 // Row 6: a mask has a bit above 8, lacks the centre in the foreground, or its two numbers overlap.

@@ -1,3 +1,4 @@
+-- `labels::is_one` meets its contract.
 use borrow.Author.Needs.{needs}
 use Rattle.morphology.specs.Image.{bitOf}
 use mathlib.Core.Path.{refl}

@@ -1,3 +1,4 @@
+-- `labels::label_byte` meets its contract.
 use borrow.Author.Needs.{needs}
 use mathlib.Core.Path.{_∙_, sym, ap}
 use Prim.Native.Nat.{_+_, _-_}

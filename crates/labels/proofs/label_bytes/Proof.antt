@@ -1,3 +1,4 @@
+-- `labels::label_bytes` meets its contract.
 use Rattle.labels.proofs.label_bytes.Statement.{statement}
 use mathlib.Core.Path.{_∙_, _≡_, subst}
 use Prim.Native.Nat.{_%_, _+_, _-_, _/_, _<_, _≤_, ℕ}

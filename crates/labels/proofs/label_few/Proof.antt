@@ -1,3 +1,4 @@
+-- `labels::label_few` meets its contract.
 use Rattle.labels.proofs.label_few.Statement.{statement}
 use mathlib.Core.Bool.{Bool, cond}
 use mathlib.Core.Path.{_∙_, _≡_, ap, ap₂, refl, sym}

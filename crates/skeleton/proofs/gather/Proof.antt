@@ -1,3 +1,4 @@
+-- `skeleton::gather` meets its contract.
 use Rattle.skeleton.proofs.gather.Statement.{statement}
 use mathlib.Core.Path.{refl, sym}
 use Prim.Native.Nat.{_-_, _≤_, max}
@@ -33,7 +34,7 @@ returns c =
     let a = s .args in
     let g = c .before .greatest in
     gathered-last (a .w) (a .h) (a .p) (a .element) (a .cut) (sheet-bytes (s .pre .0)) (now (a .labels)) (s .pre .2) (g .result) (now (a .work)) (now (a .work)) (omega (arith, c .if1 .taken))
-        (gathered-start (a .w) (a .h) (a .p) (a .element) (a .cut) (sheet-bytes (s .pre .0)) (now (a .labels)) (s .pre .2) (g .result) (now (a .work)) (g .ensures) (s .pre .3))
+    (gathered-start (a .w) (a .h) (a .p) (a .element) (a .cut) (sheet-bytes (s .pre .0)) (now (a .labels)) (s .pre .2) (g .result) (now (a .work)) (g .ensures) (s .pre .3))
 
 slice-aggregate-row-tops : tie.Need-slice-aggregate-row-tops Inv-loop μ-loop
 slice-aggregate-row-tops c =

@@ -1,3 +1,4 @@
+-- `labels::points::add_points` meets its contract.
 use Rattle.labels.proofs.points.add_points.Statement.{statement}
 use mathlib.Core.Bool.{Bool, _||_}
 use mathlib.Core.Path.{_∙_, _≡_, ap, subst}

@@ -1,3 +1,4 @@
+-- `labels::points::row_tops` meets its contract.
 use Rattle.labels.proofs.points.row_tops.Statement.{statement}
 use mathlib.Core.Path.{_∙_, _≡_, ap}
 use Prim.Native.Nat.{_*_, _+_, _-_, _<_, _≤_, ℕ}

@@ -1,3 +1,4 @@
+-- `labels::wild::is_wild` meets its contract.
 use Rattle.labels.proofs.wild.is_wild.Statement.{statement}
 use borrow.Author.Needs.{needs}
 use Prim.Native.Nat.{_≤_}
