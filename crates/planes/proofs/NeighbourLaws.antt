@@ -13,7 +13,7 @@ use lib.ListN.{List·getD-eq-default, drop, getD, getD-replicate, length, length
 use lib.Seq.{length-take-le}
 use Rattle.morphology.specs.Element.{bit}
 use Rattle.morphology.specs.Image.{bitOf}
-use Rattle.raster.specs.Rows.{RowJoined, join, rowBit}
+use Rattle.raster.specs.Rows.{RowJoined, join, readBit, rowBit}
 use Rattle.morphology.proofs.TestLaws.{and-l, and-r}
 use Rattle.raster.proofs.ByteLaws.{full-bit, zero-bit}
 use Rattle.raster.proofs.PartLaws.{PartIs, cut-bit, part-back, part-bit}
@@ -191,38 +191,38 @@ bitAsks t five row x j = cond (bit five j) (row (x + (turned t j + 6))) (not t)
 pub row-kept : (t : Bool) (l : List ℕ) (f : ℕ → Bool) → ((x : ℕ) → f x ≡ not t) → RowJoined t l l f
 row-kept t l f h = record { size = refl; pixels = λ x i. sym (ap (join t (rowBit l x)) (h x) ∙ join-unit t (rowBit l x)) }
 
-pub row-unless : (t : Bool) (l buf : List ℕ) (s digit : ℕ) → (digit ≡ 1 → ⊥) → RowJoined t l l (λ x. cond (eqb digit 1) (rowBit buf (x + s)) (not t))
-row-unless t l buf s digit d = row-kept t l (λ x. cond (eqb digit 1) (rowBit buf (x + s)) (not t)) (λ x. ap (λ (b : Bool). cond b (rowBit buf (x + s)) (not t)) (ne-eqb digit 1 d))
+pub row-unless : (t i : Bool) (l buf : List ℕ) (s digit : ℕ) → (digit ≡ 1 → ⊥) → RowJoined t l l (λ x. cond (eqb digit 1) (readBit i buf (x + s)) (not t))
+row-unless t i l buf s digit d = row-kept t l (λ x. cond (eqb digit 1) (readBit i buf (x + s)) (not t)) (λ x. ap (λ (b : Bool). cond b (readBit i buf (x + s)) (not t)) (ne-eqb digit 1 d))
 
-pub row-if : (t : Bool) (old new buf : List ℕ) (s digit : ℕ) → digit ≡ 1 → RowJoined t old new (λ x. rowBit buf (x + s))
-    → RowJoined t old new (λ x. cond (eqb digit 1) (rowBit buf (x + s)) (not t))
-row-if t old new buf s digit e m = record {
+pub row-if : (t i : Bool) (old new buf : List ℕ) (s digit : ℕ) → digit ≡ 1 → RowJoined t old new (λ x. readBit i buf (x + s))
+    → RowJoined t old new (λ x. cond (eqb digit 1) (readBit i buf (x + s)) (not t))
+row-if t i old new buf s digit e m = record {
   size = m .size;
-  pixels = λ x i. m .pixels x i ∙ sym (ap (λ (b : Bool). join t (rowBit old x) (cond b (rowBit buf (x + s)) (not t))) (eq-eqb digit 1 e));
+  pixels = λ x k. m .pixels x k ∙ sym (ap (λ (b : Bool). join t (rowBit old x) (cond b (readBit i buf (x + s)) (not t))) (eq-eqb digit 1 e));
 }
 
-pub five-none : (t : Bool) (five : ℕ) (buf a : List ℕ) → RowJoined t a a (λ x. joined t 0 (bitAsks t five (rowBit buf) x))
+pub five-none : (t i : Bool) (five : ℕ) (buf a : List ℕ) → RowJoined t a a (λ x. joined t 0 (bitAsks t five (readBit i buf) x))
 unfolding joined
-five-none t five buf a = row-kept t a (λ x. not t) (λ x. refl)
+five-none t i five buf a = row-kept t a (λ x. not t) (λ x. refl)
 
-pub five-more : (t : Bool) (five rest j s : ℕ) (buf a b c : List ℕ) → rest ≡ five / 2 ^ j → s ≡ turned t j + 6
-    → RowJoined t a b (λ x. joined t j (bitAsks t five (rowBit buf) x))
-    → RowJoined t b c (λ x. cond (eqb (rest % 2) 1) (rowBit buf (x + s)) (not t))
-    → RowJoined t a c (λ x. joined t (j + 1) (bitAsks t five (rowBit buf) x))
-five-more t five rest j s buf a b c e es p q = record {
+pub five-more : (t i : Bool) (five rest j s : ℕ) (buf a b c : List ℕ) → rest ≡ five / 2 ^ j → s ≡ turned t j + 6
+    → RowJoined t a b (λ x. joined t j (bitAsks t five (readBit i buf) x))
+    → RowJoined t b c (λ x. cond (eqb (rest % 2) 1) (readBit i buf (x + s)) (not t))
+    → RowJoined t a c (λ x. joined t (j + 1) (bitAsks t five (readBit i buf) x))
+five-more t i five rest j s buf a b c e es p q = record {
   size = q .size ∙ p .size;
-  pixels = λ x i.
-      let f : Bool = joined t j (bitAsks t five (rowBit buf) x) in
-      let g : Bool = cond (eqb (rest % 2) 1) (rowBit buf (x + s)) (not t) in
-      q .pixels x (omega (arith, p .size)) ∙ ap (λ (n : Bool). join t n g) (p .pixels x i) ∙ join-assoc t (rowBit a x) f g
-      ∙ ap (λ (n : Bool). join t (rowBit a x) (join t f n)) (ap₂ (λ (u v : ℕ). cond (eqb (u % 2) 1) (rowBit buf (x + v)) (not t)) e es)
-      ∙ ap (join t (rowBit a x)) (sym (joined-more t j (bitAsks t five (rowBit buf) x)));
+  pixels = λ x k.
+      let f : Bool = joined t j (bitAsks t five (readBit i buf) x) in
+      let g : Bool = cond (eqb (rest % 2) 1) (readBit i buf (x + s)) (not t) in
+      q .pixels x (omega (arith, p .size)) ∙ ap (λ (n : Bool). join t n g) (p .pixels x k) ∙ join-assoc t (rowBit a x) f g
+      ∙ ap (λ (n : Bool). join t (rowBit a x) (join t f n)) (ap₂ (λ (u v : ℕ). cond (eqb (u % 2) 1) (readBit i buf (x + v)) (not t)) e es)
+      ∙ ap (join t (rowBit a x)) (sym (joined-more t j (bitAsks t five (readBit i buf) x)));
 }
 
-pub five-done : (t : Bool) (five : ℕ) (buf a b : List ℕ) (j : ℕ) → j ≡ 5 → RowJoined t a b (λ x. joined t j (bitAsks t five (rowBit buf) x))
-    → RowJoined t a b (fiveOf t five (rowBit buf))
+pub five-done : (t i : Bool) (five : ℕ) (buf a b : List ℕ) (j : ℕ) → j ≡ 5 → RowJoined t a b (λ x. joined t j (bitAsks t five (readBit i buf) x))
+    → RowJoined t a b (fiveOf t five (readBit i buf))
 unfolding fiveOf
-five-done t five buf a b j e p = subst (λ (n : ℕ). RowJoined t a b (λ x. joined t n (bitAsks t five (rowBit buf) x))) e p
+five-done t i five buf a b j e p = subst (λ (n : ℕ). RowJoined t a b (λ x. joined t n (bitAsks t five (readBit i buf) x))) e p
 
 -- ---- rows of the plane
 

@@ -12,10 +12,10 @@ use lib.Dec.{T, eqb, ltb}
 use lib.ListN.{drop, getD, length, length-replicate, replicate, take}
 use lib.Pow.{shr-shr}
 use Rattle.morphology.specs.Element.{bit}
-use Rattle.raster.specs.Rows.{Flipped, join, rowBit, RowIs, RowJoined}
+use Rattle.raster.specs.Rows.{join, readBit, rowBit, RowIs, RowJoined}
 use Rattle.raster.proofs.PartLaws.{PartIs, part-back, part-bit}
-use Rattle.raster.proofs.RowLaws.{flipped-bit, flipped-twice, row-in, rowBit-same}
-use Rattle.planes.specs.Neighbours.{Begun, Margins, NearRow, PlaneIs, PlaneJoined, RowsTo, elementAsks, fiveOf, joined, nearBit, neighbours, rowAsks, source, sourceBit, startByte, turned}
+use Rattle.raster.proofs.RowLaws.{row-in, rowBit-same}
+use Rattle.planes.specs.Neighbours.{Begun, NearRow, PlaneIs, PlaneJoined, RowsTo, elementAsks, fiveOf, joined, nearBit, neighbours, rowAsks, source, sourceBit, startByte, turned}
 use Rattle.planes.proofs.NeighbourLaws.{five-idle, join-assoc, join-comm, join-unit, joined-more, joined-unit, near-same, start-bit, turned-lt, unit-join}
 
 -- ---- joining many
@@ -83,8 +83,8 @@ five-middle t five row x e =
     alone (suc (suc (suc (suc zero)))) l = digit 4 0 (omega arith)
     alone (suc (suc (suc (suc (suc j))))) l = absurd (omega arith)
 
-pub row-middle : (t : Bool) (five : ℕ) (buf a b : List ℕ) → five % 32 ≡ 4 → RowJoined t a b (λ x. rowBit buf (x + 8)) → RowJoined t a b (fiveOf t five (rowBit buf))
-row-middle t five buf a b e m = record { size = m .size; pixels = λ x l. m .pixels x l ∙ ap (join t (rowBit a x)) (five-middle t five (rowBit buf) x e) }
+pub row-middle : (t q : Bool) (five : ℕ) (buf a b : List ℕ) → five % 32 ≡ 4 → RowJoined t a b (λ x. readBit q buf (x + 8)) → RowJoined t a b (fiveOf t five (readBit q buf))
+row-middle t q five buf a b e m = record { size = m .size; pixels = λ x l. m .pixels x l ∙ ap (join t (rowBit a x)) (five-middle t five (readBit q buf) x e) }
 
 -- what all rows of the source are asked is what the element asks
 pub all-asked : (t : Bool) (e h x y n : ℕ) (near : ℕ → ℕ → Bool) → y < h → n ≡ h + 4
@@ -179,23 +179,23 @@ plane-idle t p r h b Y five w row e =
     plane-kept t p r h w (λ y x. cond (eqb (y + b) Y) (fiveOf t five row x) (not t)) (λ y x l. idle t (eqb (y + b) Y) five row x e)
 
 -- one row of the element more
-pub asks-more : (t : Bool) (p r h e rest k Y : ℕ) (buf u v w : List ℕ) → rest ≡ e / 2 ^ (k * 5)
-    → PlaneJoined t p r h u v (λ y x. joined t k (rowAsks t e (rowBit buf) Y y x))
-    → PlaneJoined t p r h v w (λ y x. cond (eqb (y + turned t k) Y) (fiveOf t rest (rowBit buf) x) (not t))
-    → PlaneJoined t p r h u w (λ y x. joined t (k + 1) (rowAsks t e (rowBit buf) Y y x))
-asks-more t p r h e rest k Y buf u v w q a b =
-    plane-same (plane-more t p r h u v w (λ y x. joined t k (rowAsks t e (rowBit buf) Y y x)) (λ y x. cond (eqb (y + turned t k) Y) (fiveOf t rest (rowBit buf) x) (not t)) a b)
+pub asks-more : (t q : Bool) (p r h e rest k Y : ℕ) (buf u v w : List ℕ) → rest ≡ e / 2 ^ (k * 5)
+    → PlaneJoined t p r h u v (λ y x. joined t k (rowAsks t e (readBit q buf) Y y x))
+    → PlaneJoined t p r h v w (λ y x. cond (eqb (y + turned t k) Y) (fiveOf t rest (readBit q buf) x) (not t))
+    → PlaneJoined t p r h u w (λ y x. joined t (k + 1) (rowAsks t e (readBit q buf) Y y x))
+asks-more t q p r h e rest k Y buf u v w z a b =
+    plane-same (plane-more t p r h u v w (λ y x. joined t k (rowAsks t e (readBit q buf) Y y x)) (λ y x. cond (eqb (y + turned t k) Y) (fiveOf t rest (readBit q buf) x) (not t)) a b)
     (λ y x l. ap (join t (rowBit u (8 * (p + y * r) + x)))
-    (ap (λ (n : ℕ). join t (joined t k (rowAsks t e (rowBit buf) Y y x)) (cond (eqb (y + turned t k) Y) (fiveOf t n (rowBit buf) x) (not t))) q
-    ∙ sym (joined-more t k (rowAsks t e (rowBit buf) Y y x))))
+    (ap (λ (n : ℕ). join t (joined t k (rowAsks t e (readBit q buf) Y y x)) (cond (eqb (y + turned t k) Y) (fiveOf t n (readBit q buf) x) (not t))) z
+    ∙ sym (joined-more t k (rowAsks t e (readBit q buf) Y y x))))
 
 pub asks-none : (t : Bool) (p r h : ℕ) (w : List ℕ) (f : ℕ → ℕ → ℕ → Bool) → PlaneJoined t p r h w w (λ y x. joined t 0 (f y x))
 unfolding joined
 asks-none t p r h w f = plane-kept t p r h w (λ y x. not t) (λ y x l. refl)
 
-pub asks-done : (t : Bool) (p r h e k Y : ℕ) (buf u v : List ℕ) → k ≡ 5 → PlaneJoined t p r h u v (λ y x. joined t k (rowAsks t e (rowBit buf) Y y x))
-    → PlaneJoined t p r h u v (λ y x. elementAsks t e (rowBit buf) Y y x)
-asks-done t p r h e k Y buf u v q a = subst (λ (n : ℕ). PlaneJoined t p r h u v (λ y x. joined t n (rowAsks t e (rowBit buf) Y y x))) q a
+pub asks-done : (t q : Bool) (p r h e k Y : ℕ) (buf u v : List ℕ) → k ≡ 5 → PlaneJoined t p r h u v (λ y x. joined t k (rowAsks t e (readBit q buf) Y y x))
+    → PlaneJoined t p r h u v (λ y x. elementAsks t e (readBit q buf) Y y x)
+asks-done t q p r h e k Y buf u v z a = subst (λ (n : ℕ). PlaneJoined t p r h u v (λ y x. joined t n (rowAsks t e (readBit q buf) Y y x))) z a
 
 -- no row of the element is left
 joined-rest : (t : Bool) (n m : ℕ) (f : ℕ → Bool) → ((i : ℕ) → n ≤ i → f i ≡ not t) → joined t n f ≡ joined t (n + m) f
@@ -205,12 +205,12 @@ joined-rest t n (suc m) f e =
     joined-rest t n m f e ∙ sym (ap (join t (joined t (n + m) f)) (e (n + m) (omega arith)) ∙ join-unit t (joined t (n + m) f)) ∙ sym (joined-more t (n + m) f)
     ∙ ap (λ (i : ℕ). joined t i f) z
 
-pub asks-rest : (t : Bool) (p r h e rest k Y : ℕ) (buf u v : List ℕ) → k ≤ 5 → rest ≡ e / 2 ^ (k * 5) → rest ≡ 0
-    → PlaneJoined t p r h u v (λ y x. joined t k (rowAsks t e (rowBit buf) Y y x))
-    → PlaneJoined t p r h u v (λ y x. elementAsks t e (rowBit buf) Y y x)
-asks-rest t p r h e rest k Y buf u v l q o a =
+pub asks-rest : (t q : Bool) (p r h e rest k Y : ℕ) (buf u v : List ℕ) → k ≤ 5 → rest ≡ e / 2 ^ (k * 5) → rest ≡ 0
+    → PlaneJoined t p r h u v (λ y x. joined t k (rowAsks t e (readBit q buf) Y y x))
+    → PlaneJoined t p r h u v (λ y x. elementAsks t e (readBit q buf) Y y x)
+asks-rest t q p r h e rest k Y buf u v l w o a =
     plane-same a (λ y x ly. ap (join t (rowBit u (8 * (p + y * r) + x)))
-    (joined-rest t k (5 - k) (rowAsks t e (rowBit buf) Y y x) (λ i li. none y x i li) ∙ ap (λ (n : ℕ). joined t n (rowAsks t e (rowBit buf) Y y x)) five))
+    (joined-rest t k (5 - k) (rowAsks t e (readBit q buf) Y y x) (λ i li. none y x i li) ∙ ap (λ (n : ℕ). joined t n (rowAsks t e (readBit q buf) Y y x)) five))
   where
     five : k + (5 - k) ≡ 5
     five = omega arith
@@ -218,34 +218,17 @@ asks-rest t p r h e rest k Y buf u v l q o a =
     gone : (i : ℕ) → k ≤ i → e / 2 ^ (i * 5) ≡ 0
     gone i li =
         let z : i * 5 ≡ k * 5 + (i * 5 - k * 5) = omega arith in
-        ap (λ (n : ℕ). e / 2 ^ n) z ∙ sym (shr-shr e (k * 5) (i * 5 - k * 5)) ∙ ap (λ (n : ℕ). n / 2 ^ (i * 5 - k * 5)) (sym q ∙ o) ∙ zero-div (2 ^ (i * 5 - k * 5))
+        ap (λ (n : ℕ). e / 2 ^ n) z ∙ sym (shr-shr e (k * 5) (i * 5 - k * 5)) ∙ ap (λ (n : ℕ). n / 2 ^ (i * 5 - k * 5)) (sym w ∙ o) ∙ zero-div (2 ^ (i * 5 - k * 5))
 
-    none : (y x i : ℕ) → k ≤ i → rowAsks t e (rowBit buf) Y y x i ≡ not t
-    none y x i li = idle t (eqb (y + turned t i) Y) (e / 2 ^ (i * 5)) (rowBit buf) x (ap (λ (n : ℕ). n % 32) (gone i li))
+    none : (y x i : ℕ) → k ≤ i → rowAsks t e (readBit q buf) Y y x i ≡ not t
+    none y x i li = idle t (eqb (y + turned t i) Y) (e / 2 ^ (i * 5)) (readBit q buf) x (ap (λ (n : ℕ). n % 32) (gone i li))
 
--- an element at x asks for the pixels of a row up to x + 10
-asks-within : (t : Bool) (e Y y x : ℕ) (f g : ℕ → Bool) → ((X : ℕ) → X < x + 11 → f X ≡ g X) → elementAsks t e f Y y x ≡ elementAsks t e g Y y x
-unfolding fiveOf
-asks-within t e Y y x f g h =
-    joined-same t 5 (rowAsks t e f Y y x) (rowAsks t e g Y y x) (λ k lk.
-    ap (λ (b : Bool). cond (eqb (y + turned t k) Y) b (not t))
-    (joined-same t 5 (λ j. cond (bit (e / 2 ^ (k * 5)) j) (f (x + (turned t j + 6))) (not t)) (λ j. cond (bit (e / 2 ^ (k * 5)) j) (g (x + (turned t j + 6))) (not t)) (λ j lj.
-    ap (λ (b : Bool). cond (bit (e / 2 ^ (k * 5)) j) b (not t)) (h (x + (turned t j + 6)) (omega (arith, turned-lt t j lj))))))
-
--- the row in the buffer is row Y - 2 of the source, exchanged or not
-pub asks-source : (t i : Bool) (p r h e Y : ℕ) (plane b b′ u v : List ℕ) → NearRow plane r h Y b → Flipped i (r + 2) b b′
-    → PlaneJoined t p r h u v (λ y x. elementAsks t e (rowBit b′) Y y x)
+-- the row in the buffer is row Y - 2 of the source
+pub asks-source : (t i : Bool) (p r h e Y : ℕ) (plane b u v : List ℕ) → NearRow plane r h Y b
+    → PlaneJoined t p r h u v (λ y x. elementAsks t e (readBit i b) Y y x)
     → PlaneJoined t p r h u v (λ y x. elementAsks t e (λ X. sourceBit i plane r h X Y) Y y x)
-asks-source t i p r h e Y plane b b′ u v n f a = record {
-  size = a .size;
-  before = a .before;
-  after = a .after;
-  pixels = λ y x ly lx.
-      a .pixels y x ly lx
-      ∙ ap (join t (rowBit u (8 * (p + y * r) + x)))
-      (asks-within t e Y y x (rowBit b′) (λ X. sourceBit i plane r h X Y) (λ X l.
-      flipped-bit i (r + 2) b b′ f X (omega arith) ∙ ap (λ (c : Bool). cond i (not c) c) (n .pixels X)));
-}
+asks-source t i p r h e Y plane b u v n a =
+    plane-same a (λ y x l k. join t (rowBit u (8 * (p + y * r) + x)) (elementAsks t e (λ X. cond i (not (n .pixels X k)) (n .pixels X k)) Y y x))
 
 -- the row comes from the one or the other
 pub near-own : (own : Bool) (r h Y : ℕ) (image w b : List ℕ) → own ≡ true → NearRow w r h Y b → NearRow (source own image w) r h Y b
@@ -255,17 +238,6 @@ near-own false r h Y image w b e n = absurd (subst T (sym e) tt)
 pub near-other : (own : Bool) (r h Y : ℕ) (image w b : List ℕ) → own ≡ false → NearRow image r h Y b → NearRow (source own image w) r h Y b
 near-other true r h Y image w b e n = absurd (subst T e tt)
 near-other false r h Y image w b e n = n
-
--- the row buffer exchanged and back
-pub margins-back : (i : Bool) (r n : ℕ) (b b′ c : List ℕ) → Margins r b → Flipped i n b b′ → Flipped i n b′ c → Margins r c
-margins-back i r n b b′ c m f g = record {
-  size = g .size ∙ f .size ∙ m .size;
-  first = back 0 (m .first);
-  after = λ j l. back j (m .after j l);
-}
-  where
-    back : (j : ℕ) → getD b j 0 ≡ 0 → getD c j 0 ≡ 0
-    back j z = flipped-twice i n b b′ c f g j (omega (arith, z)) ∙ z
 
 -- the source has room
 pub source-fits : (own : Bool) (n p : ℕ) (image w : List ℕ) → n ≤ cond own p (length image) → p + n ≤ length w → n ≤ length (source own image w)

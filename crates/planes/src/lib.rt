@@ -9,7 +9,7 @@ ghost use lib.ListN.{length};
 ghost use Rattle.morphology.specs.Element.{offsets, bit};
 ghost use Rattle.morphology.specs.Image.{imageSet, pack, isClean, clip};
 ghost use Rattle.morphology.specs.Morphology.{erode, dilate, opening};
-ghost use Rattle.raster.specs.Rows.{rowBit, overwrite, Flipped, RowJoined};
+ghost use Rattle.raster.specs.Rows.{rowBit, readBit, overwrite, RowJoined};
 ghost use Rattle.planes.specs.Frames.{Frame};
 ghost use Rattle.planes.specs.Neighbours.{nearBit, isNear, Margins, NearRow, turned, startByte, fiveOf, elementAsks, neighbours, source, sourceBit, PlaneIs, PlaneJoined, Begun, RowsTo};
 
@@ -48,16 +48,6 @@ fn load_source(own: bool, image: &[u8], work: &[u8], r: usize, h: usize, yk: usi
     load_near(image, r, h, yk, buf);
 }
 
-// Foreground and background of the first n bytes exchanged, where inverse says so.
-fn flip_if(inverse: bool, n: usize, buf: &mut [u8])
-    requires { ⌜ n ≤ length (now buf) ⌝ }
-    ensures { λ _. ⌜ Flipped inverse n (now (buf .entry)) (now (buf .exit)) ⌝ }
-{
-    if inverse {
-        raster::flip(&mut buf[..n]);
-    }
-}
-
 // The offset k - 2 as k; in a dilation its negative.
 fn turn(dilating: bool, k: usize) -> usize
     requires { ⌜ k < 5 ⌝ }
@@ -69,46 +59,47 @@ fn turn(dilating: bool, k: usize) -> usize
     k
 }
 
-// Joins the row in buf, moved, to dst where digit is 1.
-fn join_if(dilating: bool, buf: &[u8], digit: u32, s: u32, dst: &mut [u8])
+// Joins the row in buf, inverted or not and moved, to dst where digit is 1.
+fn join_if(dilating: bool, inverse: bool, buf: &[u8], digit: u32, s: u32, dst: &mut [u8])
     requires { ⌜ (s < 16) × (length (now dst) + 2 ≤ length (now buf)) ⌝ }
-    ensures { λ _. ⌜ RowJoined dilating (now (dst .entry)) (now (dst .exit)) (λ x. cond (eqb digit 1) (rowBit (now (buf .entry)) (x + s)) (not dilating)) ⌝ }
+    ensures { λ _. ⌜ RowJoined dilating (now (dst .entry)) (now (dst .exit)) (λ x. cond (eqb digit 1) (readBit inverse (now (buf .entry)) (x + s)) (not dilating)) ⌝ }
 {
     if digit == 1 {
-        raster::join_row(dilating, buf, s, dst);
+        raster::join_row(dilating, inverse, buf, s, dst);
     }
 }
 
 // Joins one row of the element, the lowest five bits, of the pixels in buf to dst, bit by bit.
-fn join_bits(dilating: bool, buf: &[u8], five: u32, dst: &mut [u8])
+fn join_bits(dilating: bool, inverse: bool, buf: &[u8], five: u32, dst: &mut [u8])
     requires { ⌜ length (now dst) + 2 ≤ length (now buf) ⌝ }
-    ensures { λ _. ⌜ RowJoined dilating (now (dst .entry)) (now (dst .exit)) (fiveOf dilating five (rowBit (now (buf .entry)))) ⌝ }
+    ensures { λ _. ⌜ RowJoined dilating (now (dst .entry)) (now (dst .exit)) (fiveOf dilating five (readBit inverse (now (buf .entry)))) ⌝ }
 {
     let mut rest = five;
     let mut j: usize = 0;
     while j < 5 {
         let s = turn(dilating, j) as u32 + 6;
-        join_if(dilating, buf, rest % 2, s, dst);
+        join_if(dilating, inverse, buf, rest % 2, s, dst);
         rest = rest / 2;
         j = j + 1;
     }
 }
 
 // The same; where it has the middle bit alone, at once.
-fn join_five(dilating: bool, buf: &[u8], five: u32, dst: &mut [u8])
+fn join_five(dilating: bool, inverse: bool, buf: &[u8], five: u32, dst: &mut [u8])
     requires { ⌜ length (now dst) + 2 ≤ length (now buf) ⌝ }
-    ensures { λ _. ⌜ RowJoined dilating (now (dst .entry)) (now (dst .exit)) (fiveOf dilating five (rowBit (now (buf .entry)))) ⌝ }
+    ensures { λ _. ⌜ RowJoined dilating (now (dst .entry)) (now (dst .exit)) (fiveOf dilating five (readBit inverse (now (buf .entry)))) ⌝ }
 {
     if five % 32 == 4 {
-        raster::join_row(dilating, buf, 8, dst);
+        raster::join_row(dilating, inverse, buf, 8, dst);
         return;
     }
-    join_bits(dilating, buf, five, dst);
+    join_bits(dilating, inverse, buf, five, dst);
 }
 
 // Joins row k of the element, the lowest five bits of five, of the row yk - 2 in buf to the row of the plane at p that asks for it.
 fn scatter_five(
     dilating: bool,
+    inverse: bool,
     work: &mut [u8],
     p: usize,
     r: usize,
@@ -119,7 +110,7 @@ fn scatter_five(
     buf: &[u8],
 )
     requires { ⌜ (p + h * r ≤ length (now work)) × (k < 5) × (r + 2 ≤ length (now buf)) ⌝ }
-    ensures { λ _. ⌜ PlaneJoined dilating p r h (now (work .entry)) (now (work .exit)) (λ y x. cond (eqb (y + turned dilating k) yk) (fiveOf dilating five (rowBit (now (buf .entry))) x) (not dilating)) ⌝ }
+    ensures { λ _. ⌜ PlaneJoined dilating p r h (now (work .entry)) (now (work .exit)) (λ y x. cond (eqb (y + turned dilating k) yk) (fiveOf dilating five (readBit inverse (now (buf .entry))) x) (not dilating)) ⌝ }
 {
     if five % 32 == 0 {
         return;
@@ -133,12 +124,13 @@ fn scatter_five(
         return;
     }
     let d = p + y * r;
-    join_five(dilating, buf, five, &mut work[d..d + r]);
+    join_five(dilating, inverse, buf, five, &mut work[d..d + r]);
 }
 
 // Joins the row yk - 2 in buf to each row of the plane at p that asks for it.
 fn scatter_row(
     dilating: bool,
+    inverse: bool,
     work: &mut [u8],
     p: usize,
     r: usize,
@@ -148,7 +140,7 @@ fn scatter_row(
     buf: &[u8],
 )
     requires { ⌜ (p + h * r ≤ length (now work)) × (r + 2 ≤ length (now buf)) ⌝ }
-    ensures { λ _. ⌜ PlaneJoined dilating p r h (now (work .entry)) (now (work .exit)) (λ y x. elementAsks dilating element (rowBit (now (buf .entry))) yk y x) ⌝ }
+    ensures { λ _. ⌜ PlaneJoined dilating p r h (now (work .entry)) (now (work .exit)) (λ y x. elementAsks dilating element (readBit inverse (now (buf .entry))) yk y x) ⌝ }
 {
     let mut rest = element;
     let mut k: usize = 0;
@@ -156,13 +148,13 @@ fn scatter_row(
         if rest == 0 {
             return;
         }
-        scatter_five(dilating, work, p, r, h, yk, k, rest, buf);
+        scatter_five(dilating, inverse, work, p, r, h, yk, k, rest, buf);
         rest = rest / 32;
         k = k + 1;
     }
 }
 
-// Joins row yk - 2 of the source to each row of the plane at p that asks for it. Outside the source is background, exchanged with it.
+// Joins row yk - 2 of the source, inverted or not, to each row of the plane at p that asks for it.
 fn scatter_near(
     dilating: bool,
     inverse: bool,
@@ -181,9 +173,7 @@ fn scatter_near(
     ensures margins { λ _. ⌜ Margins r (now (buf .exit)) ⌝ }
 {
     load_source(own, image, &work[..], r, h, yk, buf);
-    flip_if(inverse, r + 2, buf);
-    scatter_row(dilating, work, p, r, h, yk, element, &buf[..]);
-    flip_if(inverse, r + 2, buf);
+    scatter_row(dilating, inverse, work, p, r, h, yk, element, &buf[..]);
 }
 
 // Joins what the element asks of the source, the first plane of work or an image, to each row of the plane at p.

@@ -1,6 +1,6 @@
 -- A whole whose part, lent, has come back.
 use mathlib.Core.Path.{_∙_, _≡_, ap, ap₂, refl, subst, sym}
-use mathlib.Core.Bool.{Bool, _&&_, true}
+use mathlib.Core.Bool.{Bool, _&&_}
 use mathlib.Core.List.{List, [], _++_, append-assoc, append-nil}
 use Prim.Native.Nat.{_%_, _*_, _+_, _-_, _/_, _<_, _^_, _≤_, ℕ}
 use native.Mathlib.Decide.{decLt}
@@ -8,12 +8,11 @@ use native.Mathlib.Nat.{add-assoc, not-suc-le-zero, zero-add}
 use borrow.Author.Count.{below-more}
 use native.Mathlib.Omega.{arith}
 use borrow.Author.Tests.{le-ltb, lt-ltb}
-use lib.Bits.{bitXor}
 use lib.Dec.{lit<, ltb}
 use lib.ListN.{List·getD-append, List·getD-eq-default, drop, getD, length, length-append, length-drop, length-set, set, take}
 use lib.Seq.{drop-at, drop-drop, drop-length, ext-getD, getD-append-add, getD-drop, getD-set-other, getD-set-same, getD-take, length-take-le, take-add, take-all, take-append-le, take-take}
 use Rattle.morphology.specs.Image.{bitOf}
-use Rattle.raster.specs.Rows.{Flipped, Pixelwise, RowIs, RowJoined, join, overwrite, rowBit}
+use Rattle.raster.specs.Rows.{Pixelwise, RowIs, RowJoined, join, overwrite, rowBit}
 use Rattle.raster.proofs.ByteLaws.{and-true, cleared-bit}
 use Rattle.raster.proofs.RowLaws.{rowBit-same}
 
@@ -249,15 +248,3 @@ padding-row w k old ek hw hr h0 hv = record { size = length-set old last v; pixe
         ∙ ap (λ (n : ℕ). bitOf n (x % 8)) (getD-set-same old last v 0 (omega arith))
         ∙ cleared-bit (getD old last 0) k (x % 8) hv (omega arith) (omega arith)
         ∙ ap₂ _&&_ (sym (ap (λ (i : ℕ). bitOf (getD old i 0) (x % 8)) q)) (ltb-iff (x % 8) (8 - k) x w (λ z. omega arith) (λ z. omega arith))
-
--- the first n bytes exchanged, lent and back
-pub flipped-part : (n : ℕ) (old ys : List ℕ) → n ≤ length old → Flipped true (length (take n old)) (take n old) ys → Flipped true n old (ys ++ drop n old)
-flipped-part n old ys h f =
-    let cut : length (take n old) ≡ n = length-take-le n old h in
-    let p = part-back 0 n old ys (omega arith) (f .size ∙ cut) in
-    record {
-      size = p .size;
-      places = λ j l.
-          ap (λ (i : ℕ). getD (ys ++ drop n old) i 0) (sym (zero-add j)) ∙ p .within j l ∙ f .places j (omega (arith, cut)) ∙ ap (λ (k : ℕ). bitXor k 255) (getD-take n old j 0 l);
-      after = λ j l. p .after j (omega arith);
-    }

@@ -1,9 +1,9 @@
 -- Rows of packed pixels, and bytes written into a buffer. Definitions only; proofs/ has the laws.
-use mathlib.Core.Bool.{Bool, _&&_, _||_, cond, false, true}
+use mathlib.Core.Bool.{Bool, _&&_, _||_, cond, false, not, true}
 use mathlib.Core.List.{List, [], _++_, _∷_}
 use mathlib.Core.Path.{_≡_}
 use Prim.Native.Nat.{_%_, _*_, _+_, _/_, _<_, _≤_, ℕ}
-use lib.Bits.{bitAnd, bitOr, bitXor}
+use lib.Bits.{bitAnd, bitOr}
 use lib.Count.{ones}
 use lib.ListN.{drop, getD, length, take}
 use Rattle.morphology.specs.Image.{bitOf}
@@ -16,6 +16,14 @@ overwrite a ys l = take a l ++ (ys ++ drop (a + length ys) l)
 unfoldable pub rowBit : List ℕ → ℕ → Bool
 rowBit l x = bitOf (getD l (x / 8) 0) (x % 8)
 
+-- the same, with foreground and background exchanged where t says so; past the end as well
+abbrev pub readBit : Bool → List ℕ → ℕ → Bool
+readBit t l x = cond t (not (rowBit l x)) (rowBit l x)
+
+abbrev pub exchangeByte : Bool → ℕ
+exchangeByte true = 255
+exchangeByte false = 0
+
 -- two pixels joined: by or in a dilation (true), by and in an erosion (false); eight of them
 abbrev pub join : Bool → Bool → Bool → Bool
 join true a b = a || b
@@ -24,12 +32,6 @@ join false a b = a && b
 abbrev pub joinByte : Bool → ℕ → ℕ → ℕ
 joinByte true a b = bitOr a b
 joinByte false a b = bitAnd a b
-
--- new is old, with foreground and background of the first n bytes exchanged where t says so
-pub record Flipped (t : Bool) (n : ℕ) (old new : List ℕ) : Type 0 where
-  pub size : length new ≡ length old
-  pub places : (j : ℕ) → j < n → getD new j 0 ≡ cond t (bitXor (getD old j 0) 255) (getD old j 0)
-  pub after : (j : ℕ) → n ≤ j → getD new j 0 ≡ getD old j 0
 
 -- pixel x of new is g x of pixel x of old
 pub record Pixelwise (old new : List ℕ) (g : ℕ → Bool → Bool) : Type 0 where

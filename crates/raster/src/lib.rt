@@ -1,12 +1,12 @@
 ghost use mathlib.Core.Path.{_≡_};
-ghost use mathlib.Core.Bool.{_&&_, not, true};
+ghost use mathlib.Core.Bool.{_&&_, not};
 ghost use mathlib.Core.List.{_++_};
 ghost use Prim.Native.Nat.{ℕ, _+_, _*_, _<_, _≤_, _^_};
 ghost use lib.Dec.{ltb, eqb};
 ghost use lib.ListN.{length, getD, replicate, take, drop};
 ghost use Rattle.morphology.specs.Image.{stride, isClean, onesOf, pixel as pixelOf};
 ghost use Rattle.morphology.specs.Lists.{any, all, upTo};
-ghost use Rattle.raster.specs.Rows.{rowBit, joinByte, Flipped, Pixelwise, RowIs, RowJoined, Summed, sumOf};
+ghost use Rattle.raster.specs.Rows.{rowBit, readBit, exchangeByte, joinByte, Pixelwise, RowIs, RowJoined, Summed, sumOf};
 
 // Two bytes joined pixel by pixel: by or in a dilation, by and in an erosion.
 fn join(dilating: bool, a: u8, b: u8) -> u8
@@ -18,21 +18,32 @@ fn join(dilating: bool, a: u8, b: u8) -> u8
     a & b
 }
 
-// Joins pixel x + s of buf to each pixel x of dst.
-pub fn join_row(dilating: bool, buf: &[u8], s: u32, dst: &mut [u8])
+// The byte that exchanges foreground and background, or leaves them.
+fn exchange(inverse: bool) -> u8
+    ensures { λ m. ⌜ m ≡ exchangeByte inverse ⌝ }
+{
+    if inverse {
+        return 255;
+    }
+    0
+}
+
+// Joins pixel x + s of buf, inverted or not, to each pixel x of dst.
+pub fn join_row(dilating: bool, inverse: bool, buf: &[u8], s: u32, dst: &mut [u8])
     requires { ⌜ (s < 16) × (length (now dst) + 2 ≤ length (now buf)) ⌝ }
-    ensures { λ _. ⌜ RowJoined dilating (now (dst .entry)) (now (dst .exit)) (λ x. rowBit (now (buf .entry)) (x + s)) ⌝ }
+    ensures { λ _. ⌜ RowJoined dilating (now (dst .entry)) (now (dst .exit)) (λ x. readBit inverse (now (buf .entry)) (x + s)) ⌝ }
 {
     let n = dst.len();
     let o = (s / 8) as usize;
     let d = s % 8;
     let e = 7 - d;
+    let m = exchange(inverse);
     let mut i: usize = 0;
     while i < n {
         dst[i] = join(
             dilating,
             dst[i],
-            (buf[o + i] << d) | (buf[o + i + 1] >> e >> 1),
+            ((buf[o + i] << d) | (buf[o + i + 1] >> e >> 1)) ^ m,
         );
         i = i + 1;
     }
@@ -112,17 +123,6 @@ pub fn subtract(src: &[u8], dst: &mut [u8])
     let mut i: usize = 0;
     while i < dst.len() {
         dst[i] = dst[i] & (src[i] ^ 255);
-        i = i + 1;
-    }
-}
-
-// Foreground and background of all bytes exchanged.
-pub fn flip(s: &mut [u8])
-    ensures { λ _. ⌜ Flipped true (length (now (s .entry))) (now (s .entry)) (now (s .exit)) ⌝ }
-{
-    let mut i: usize = 0;
-    while i < s.len() {
-        s[i] = s[i] ^ 255;
         i = i + 1;
     }
 }

@@ -6,18 +6,18 @@ use denote.Ref.{now}
 use lib.Pow.{shr-shr}
 use Rattle.planes.specs.Neighbours.{joined}
 use Rattle.planes.proofs.NeighbourLaws.{bitAsks, five-done, five-more, five-none, turned-lt}
-use Rattle.raster.specs.Rows.{RowJoined, rowBit}
+use Rattle.raster.specs.Rows.{RowJoined, readBit}
 use Rattle.planes.proofs.join_bits.Statement.{statement}
 use Rattle.planes.proofs.join_bits.Tie as tie
 
 abbrev Inv-loop : tie.InvT-loop
-Inv-loop dilating buf five dst₀ rest₀ j₀ dst rest j = (j ≤ 5) × (rest ≡ five / 2 ^ j) × RowJoined dilating dst₀ dst (λ x. joined dilating j (bitAsks dilating five (rowBit buf) x))
+Inv-loop dilating inverse buf five dst₀ rest₀ j₀ dst rest j = (j ≤ 5) × (rest ≡ five / 2 ^ j) × RowJoined dilating dst₀ dst (λ x. joined dilating j (bitAsks dilating five (readBit inverse buf) x))
 
 abbrev μ-loop : tie.MeasureT-loop
-μ-loop dilating buf five dst₀ rest₀ j₀ dst rest j = 5 - j
+μ-loop dilating inverse buf five dst₀ rest₀ j₀ dst rest j = 5 - j
 
 loop-holds : tie.Need-loop-holds Inv-loop μ-loop
-loop-holds c = let a = c .before .before .args in (omega arith, omega arith, five-none (a .dilating) (a .five) (now (a .buf)) (now (a .dst)))
+loop-holds c = let a = c .before .before .args in (omega arith, omega arith, five-none (a .dilating) (a .inverse) (a .five) (now (a .buf)) (now (a .dst)))
 
 turn-requires : tie.Need-turn-requires Inv-loop μ-loop
 turn-requires c κs = omega arith
@@ -43,7 +43,7 @@ loop-again c =
     let a = c .before .before .before .before .before .before .before .before .before .args in (
       omega arith,
       ap (λ (n : ℕ). n / 2) (l .inv .1) ∙ shr-shr (a .five) (l .j) 1,
-      five-more (a .dilating) (a .five) (l .rest) (l .j) _ (now (a .buf)) (now (a .dst)) (l .dst) _ (l .inv .1) (ap (λ (n : ℕ). n + 6) (c .before .before .before .before .turn .ensures)) (l .inv .2) (c .before .before .join-if .ensures),
+      five-more (a .dilating) (a .inverse) (a .five) (l .rest) (l .j) _ (now (a .buf)) (now (a .dst)) (l .dst) _ (l .inv .1) (ap (λ (n : ℕ). n + 6) (c .before .before .before .before .turn .ensures)) (l .inv .2) (c .before .before .join-if .ensures),
     )
 
 same-length : tie.Need-same-length Inv-loop μ-loop
@@ -53,7 +53,7 @@ returns : tie.Need-returns Inv-loop μ-loop
 returns c =
     let a = c .before .before .before .before .args in
     let l = c .before .loop in
-    five-done (a .dilating) (a .five) (now (a .buf)) (now (a .dst)) (l .dst) (l .j) (omega arith) (l .inv .2)
+    five-done (a .dilating) (a .inverse) (a .five) (now (a .buf)) (now (a .dst)) (l .dst) (l .j) (omega arith) (l .inv .2)
 
 pub join-bits-spec : {M : Type 1} → statement M
 join-bits-spec =

@@ -14,7 +14,7 @@ same-length c = search needs
 returns : tie.Need-returns
 returns c =
     let a = c .before .before .before .before .before .before .before .args in
-    row-middle (a .dilating) (a .five) (now (a .buf)) (now (a .dst)) _ (c .before .before .before .before .if1 .taken) (c .before .before .join-row .ensures)
+    row-middle (a .dilating) (a .inverse) (a .five) (now (a .buf)) (now (a .dst)) _ (c .before .before .before .before .if1 .taken) (c .before .before .join-row .ensures)
 
 join-bits-requires : tie.Need-join-bits-requires
 join-bits-requires c κs = search needs

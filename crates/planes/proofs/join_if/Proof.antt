@@ -14,10 +14,10 @@ same-length c = search needs
 returns : tie.Need-returns
 returns c =
     let a = c .before .before .before .before .before .before .before .args in
-    row-if (a .dilating) (now (a .dst)) _ (now (a .buf)) (a .s) (a .digit) (c .before .before .before .before .if1 .taken) (c .before .before .join-row .ensures)
+    row-if (a .dilating) (a .inverse) (now (a .dst)) _ (now (a .buf)) (a .s) (a .digit) (c .before .before .before .before .if1 .taken) (c .before .before .join-row .ensures)
 
 returns-2 : tie.Need-returns-2
-returns-2 c = let a = c .before .before .before .args in row-unless (a .dilating) (now (a .dst)) (now (a .buf)) (a .s) (a .digit) (c .if1 .left)
+returns-2 c = let a = c .before .before .before .args in row-unless (a .dilating) (a .inverse) (now (a .dst)) (now (a .buf)) (a .s) (a .digit) (c .if1 .left)
 
 pub join-if-spec : {M : Type 1} → statement M
 join-if-spec = tie.close (tie.spec join-row-requires same-length returns returns-2)

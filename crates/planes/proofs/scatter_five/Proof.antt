@@ -6,7 +6,7 @@ use denote.Ref.{now}
 use lib.ListN.{length}
 use Rattle.planes.specs.Neighbours.{fiveOf, turned}
 use Rattle.planes.proofs.ScatterLaws.{plane-idle, plane-none, plane-row}
-use Rattle.raster.specs.Rows.{rowBit}
+use Rattle.raster.specs.Rows.{readBit}
 use Rattle.raster.proofs.PartLaws.{joined-part}
 use Rattle.raster.proofs.RowLaws.{row-at}
 use Rattle.planes.proofs.scatter_five.Statement.{statement}
@@ -15,7 +15,7 @@ use Rattle.planes.proofs.scatter_five.Tie as tie
 returns : tie.Need-returns
 returns c =
     let a = c .before .before .before .args in
-    plane-idle (a .dilating) (a .p) (a .r) (a .h) (turned (a .dilating) (a .k)) (a .yk) (a .five) (now (a .work)) (rowBit (now (a .buf))) (c .if1 .taken)
+    plane-idle (a .dilating) (a .p) (a .r) (a .h) (turned (a .dilating) (a .k)) (a .yk) (a .five) (now (a .work)) (readBit (a .inverse) (now (a .buf))) (c .if1 .taken)
 
 turn-requires : tie.Need-turn-requires
 turn-requires c κs = search needs
@@ -23,30 +23,30 @@ turn-requires c κs = search needs
 returns-2 : tie.Need-returns-2
 returns-2 c =
     let a = c .before .before .before .before .before .args in
-    plane-none (a .dilating) (a .p) (a .r) (a .h) _ (turned (a .dilating) (a .k)) (a .yk) (now (a .work)) (fiveOf (a .dilating) (a .five) (rowBit (now (a .buf)))) (c .before .turn .ensures) (λ y l e. omega (arith, c .if2 .taken))
+    plane-none (a .dilating) (a .p) (a .r) (a .h) _ (turned (a .dilating) (a .k)) (a .yk) (now (a .work)) (fiveOf (a .dilating) (a .five) (readBit (a .inverse) (now (a .buf)))) (c .before .turn .ensures) (λ y l e. omega (arith, c .if2 .taken))
 
 returns-3 : tie.Need-returns-3
 returns-3 c =
     let a = c .before .before .before .before .before .before .args in
-    plane-none (a .dilating) (a .p) (a .r) (a .h) _ (turned (a .dilating) (a .k)) (a .yk) (now (a .work)) (fiveOf (a .dilating) (a .five) (rowBit (now (a .buf)))) (c .before .before .turn .ensures) (λ y l e. omega (arith, c .if3 .taken, c .before .if2 .left))
+    plane-none (a .dilating) (a .p) (a .r) (a .h) _ (turned (a .dilating) (a .k)) (a .yk) (now (a .work)) (fiveOf (a .dilating) (a .five) (readBit (a .inverse) (now (a .buf)))) (c .before .before .turn .ensures) (λ y l e. omega (arith, c .if3 .taken, c .before .if2 .left))
 
 mul-d : tie.Need-mul-d
 mul-d c =
     let s = c .before .before .before .before .before .before in
     let a = s .args in
-    omega (arith, row-at (a .p) (a .yk - c .before .before .turn .result) (a .h) (a .r) (length (now (a .work))) (omega arith) (s .pre .0), s .good .1 .0)
+    omega (arith, row-at (a .p) (a .yk - c .before .before .turn .result) (a .h) (a .r) (length (now (a .work))) (omega arith) (s .pre .0), s .good .1 .1 .0)
 
 add-d : tie.Need-add-d
 add-d c =
     let s = c .before .before .before .before .before .before in
     let a = s .args in
-    omega (arith, row-at (a .p) (a .yk - c .before .before .turn .result) (a .h) (a .r) (length (now (a .work))) (omega arith) (s .pre .0), s .good .1 .0)
+    omega (arith, row-at (a .p) (a .yk - c .before .before .turn .result) (a .h) (a .r) (length (now (a .work))) (omega arith) (s .pre .0), s .good .1 .1 .0)
 
 add-join-five : tie.Need-add-join-five
 add-join-five c =
     let s = c .before .before .before .before .before .before in
     let a = s .args in
-    omega (arith, row-at (a .p) (a .yk - c .before .before .turn .result) (a .h) (a .r) (length (now (a .work))) (omega arith) (s .pre .0), s .good .1 .0)
+    omega (arith, row-at (a .p) (a .yk - c .before .before .turn .result) (a .h) (a .r) (length (now (a .work))) (omega arith) (s .pre .0), s .good .1 .1 .0)
 
 sub-join-five : tie.Need-sub-join-five
 sub-join-five c = search needs
@@ -72,8 +72,8 @@ returns-4 c =
     let a = s .args in
     let y = a .yk - c .before .before .before .before .before .before .turn .result in
     let d = a .p + y * a .r in
-    plane-row (a .dilating) (a .p) (a .r) (a .h) y _ (turned (a .dilating) (a .k)) (a .yk) (now (a .work)) _ (fiveOf (a .dilating) (a .five) (rowBit (now (a .buf)))) (omega arith) (omega arith) (c .before .before .before .before .before .before .turn .ensures)
-    (joined-part (a .dilating) d (a .r) (d + a .r - d) (now (a .work)) _ (fiveOf (a .dilating) (a .five) (rowBit (now (a .buf)))) (omega arith)
+    plane-row (a .dilating) (a .p) (a .r) (a .h) y _ (turned (a .dilating) (a .k)) (a .yk) (now (a .work)) _ (fiveOf (a .dilating) (a .five) (readBit (a .inverse) (now (a .buf)))) (omega arith) (omega arith) (c .before .before .before .before .before .before .turn .ensures)
+    (joined-part (a .dilating) d (a .r) (d + a .r - d) (now (a .work)) _ (fiveOf (a .dilating) (a .five) (readBit (a .inverse) (now (a .buf)))) (omega arith)
     (row-at (a .p) y (a .h) (a .r) (length (now (a .work))) (omega arith) (s .pre .0)) (c .before .before .join-five .ensures))
 
 pub scatter-five-spec : {M : Type 1} → statement M
