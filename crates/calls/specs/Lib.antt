@@ -1,2 +1,3 @@
-pub mod Called
 pub mod Replies
+pub mod Called
+pub mod Format

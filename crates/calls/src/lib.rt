@@ -1,4 +1,7 @@
 // A call of a public operation by its number, with its answer as numbers.
+mod format;
+
+pub use format::answer;
 use minimal::Minimised;
 use skeleton::Decomposed;
 use skeleton::Written;
