@@ -44,14 +44,14 @@ fn put(s: &[u8]) -> bool {
 
 // Reads the buffers of a call, which have its lengths, makes the call and writes its reply; whether all of it could be done.
 fn serve(
-    header: &[u8],
+    header: &[u8; HEADER],
     x: &mut [u8],
     y: &mut [u8],
     z: &mut [u8],
     c: &mut [u8],
     counters: &mut [u16],
 ) -> bool
-    requires { ⌜ (length (now header) ≡ 33) × (length (now c) ≡ 2 * length (now counters)) ⌝ }
+    requires { ⌜ length (now c) ≡ 2 * length (now counters) ⌝ }
 {
     if !fill(x) {
         return false;
@@ -69,14 +69,8 @@ fn serve(
     put(&reply) && put(&y[..]) && put(&z[..]) && put(&c[..])
 }
 
-// Reads a call, makes it and writes its reply; whether there was one.
-fn turn(
-    x: &mut [u8; SIZE],
-    y: &mut [u8; SIZE],
-    z: &mut [u8; SIZE],
-    c: &mut [u8; 2 * SIZE],
-    counters: &mut [u16; SIZE],
-) -> bool {
+// Reads a call that fits the buffers, makes it and writes its reply; whether there was one.
+fn turn(x: &mut [u8], y: &mut [u8], z: &mut [u8], c: &mut [u8], counters: &mut [u16]) -> bool {
     let mut header = [0u8; HEADER];
     if !fill(&mut header) {
         return false;
@@ -85,7 +79,10 @@ fn turn(
     let ys = numbers::number(&header, 21) as usize;
     let zs = numbers::number(&header, 25) as usize;
     let cs = numbers::number(&header, 29) as usize;
-    if header[0] > 6 || xs > SIZE || ys > SIZE || zs > SIZE || cs > SIZE {
+    if header[0] > 6 || xs > x.len() || ys > y.len() || zs > z.len() {
+        return false;
+    }
+    if cs > counters.len() || 2 * cs > c.len() {
         return false;
     }
     serve(
