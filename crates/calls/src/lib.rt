@@ -9,7 +9,7 @@ use thinning::Hit;
 use thinning::Thinned;
 ghost use mathlib.Core.Path.{_≡_};
 ghost use mathlib.Core.List.{[], _∷_};
-ghost use Rattle.morphology.specs.Answers.{outcome};
+ghost use Rattle.morphology.specs.Answers.{answered, outcome, refused as refusedAnswer};
 ghost use Rattle.minimal.specs.Minimised.{answerOf as minimisedAnswer};
 ghost use Rattle.skeleton.specs.Decomposed.{answerOf as decomposedAnswer};
 ghost use Rattle.skeleton.specs.Written.{answerOf as writtenAnswer};
@@ -29,7 +29,7 @@ pub struct Reply {
 
 // A refusal.
 fn refused(n: u8) -> Reply
-    ensures { λ r. ⌜ r ≡ record { refusal = n; count = 0; first = 0; second = 0; third = 0 } ⌝ }
+    ensures { λ r. ⌜ r ≡ replyOf (refusedAnswer n) ⌝ }
 {
     Reply {
         refusal: n,
@@ -42,7 +42,7 @@ fn refused(n: u8) -> Reply
 
 // One value.
 fn one(v: u32) -> Reply
-    ensures { λ r. ⌜ r ≡ record { refusal = 0; count = 1; first = v; second = 0; third = 0 } ⌝ }
+    ensures { λ r. ⌜ r ≡ replyOf (answered (v ∷ [])) ⌝ }
 {
     Reply {
         refusal: 0,
