@@ -17,19 +17,19 @@ loop-holds : tie.Need-loop-holds Inv-loop μ-loop
 loop-holds c = (omega arith, length-replicate {A = ℕ} 65536 0, length-replicate {A = ℕ} 65536 0, length-replicate {A = ℕ} 65536 0, length-replicate {A = ℕ} 131072 0, length-replicate {A = ℕ} 65536 0)
 
 slice-aggregate-turn : tie.Need-slice-aggregate-turn Inv-loop μ-loop
-slice-aggregate-turn c = search needs
+slice-aggregate-turn c = sym (c .before .before .loop .inv .1)
 
 slice-aggregate-turn-2 : tie.Need-slice-aggregate-turn-2 Inv-loop μ-loop
-slice-aggregate-turn-2 c = search needs
+slice-aggregate-turn-2 c = sym (c .before .before .before .loop .inv .2)
 
 slice-aggregate-turn-3 : tie.Need-slice-aggregate-turn-3 Inv-loop μ-loop
-slice-aggregate-turn-3 c = search needs
+slice-aggregate-turn-3 c = sym (c .before .before .before .before .loop .inv .3)
 
 slice-aggregate-turn-4 : tie.Need-slice-aggregate-turn-4 Inv-loop μ-loop
-slice-aggregate-turn-4 c = search needs
+slice-aggregate-turn-4 c = sym (c .before .before .before .before .before .loop .inv .4)
 
 slice-aggregate-turn-5 : tie.Need-slice-aggregate-turn-5 Inv-loop μ-loop
-slice-aggregate-turn-5 c = search needs
+slice-aggregate-turn-5 c = sym (c .before .before .before .before .before .before .loop .inv .5)
 
 turn-requires : tie.Need-turn-requires Inv-loop μ-loop
 turn-requires c κs = search needs
@@ -44,7 +44,7 @@ loop-less : tie.Need-loop-less Inv-loop μ-loop
 loop-less c = search needs
 
 loop-again : tie.Need-loop-again Inv-loop μ-loop
-loop-again c = search needs
+loop-again c = (search needs, c .before .before .before .before .before .x2 .given, c .before .before .before .before .y2 .given, c .before .before .before .z2 .given, c .before .before .c2 .given, c .before .counters2 .given)
 
 returns-2 : tie.Need-returns-2 Inv-loop μ-loop
 returns-2 c = search needs
