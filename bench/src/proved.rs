@@ -1,6 +1,6 @@
 //! The proved functions, linked as a static library. A slice goes as a pointer and a length.
-//! Each answers one number: `decompose` and `minimise` the points, `thin` the points removed,
-//! the others the area.
+//! Each answers one number: `decompose` and `minimise` the points, `thin` the passes, the
+//! others the area.
 
 #[rustfmt::skip]
 #[link(name = "timing", kind = "static")]

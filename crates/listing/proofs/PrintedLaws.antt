@@ -25,7 +25,8 @@ use Rattle.morphology.proofs.RefusalLaws.{first-out, or-hit}
 use Rattle.morphology.proofs.SkeletonLaws.{label-le}
 use Rattle.morphology.proofs.TestLaws.{and-l, and-r}
 use Rattle.planes.proofs.SideLaws.{sides-of}
-use Rattle.listing.specs.Printed.{answerText, enough, longest, noSize, numberAt, outcomeText, printed, refusalText, taken}
+use Rattle.numbers.specs.Numbers.{numberAt}
+use Rattle.listing.specs.Printed.{answerText, enough, longest, noSize, outcomeText, printed, refusalText, taken}
 use Rattle.listing.specs.Text.{decimal}
 use Rattle.listing.proofs.LengthLaws.{refusal-length, skeleton-length, three-digits}
 

@@ -7,6 +7,7 @@ use lib.ListN.{drop, getD, length, replicate}
 use Rattle.morphology.specs.Answers.{Answer, Outcome, output}
 use Rattle.morphology.specs.Image.{planeBytes}
 use Rattle.morphology.specs.Operations.{decomposed}
+use Rattle.numbers.specs.Numbers.{numberAt}
 use Rattle.listing.specs.Text.{decimal, line, mapText}
 
 -- "refused"
@@ -37,15 +38,11 @@ answerText W H a m = text (a .values)
 abbrev pub outcomeText : ℕ → ℕ → Outcome → List ℕ
 outcomeText W H o = answerText W H (o .answer) (output o)
 
--- the number at i, of four bytes, lowest first
-abbrev pub numberAt : List ℕ → ℕ → ℕ
-numberAt s i = getD s i 0 + 256 * getD s (i + 1) 0 + 65536 * getD s (i + 2) 0 + 16777216 * getD s (i + 3) 0
-
 -- an image decomposed, with buffers of the lengths that 01 asks for
 abbrev pub taken : ℕ → ℕ → ℕ → List ℕ → Outcome
 taken W H e image = decomposed W H e image (replicate (W * H) 0) (replicate (3 * planeBytes W H) 0)
 
--- a byte W, a byte H, the element in four bytes, the image; below six bytes refusal 3
+-- a byte W, a byte H, the element in four bytes, lowest first, the image; below six bytes refusal 3
 unfoldable pub printed : List ℕ → List ℕ
 printed input =
     let W = getD input 0 0 in

@@ -20,13 +20,6 @@ pub const INPUT: usize = 6 + SIDE * STRIDE + 1;
 // The longest output: the first line, and labels of three digits, each with what ends it.
 pub const OUTPUT: usize = 18 + SIDE * SIDE * 4;
 
-// A number of four bytes, lowest first.
-fn number(a: u8, b: u8, c: u8, d: u8) -> u32
-    ensures { λ n. ⌜ n ≡ a + 256 * b + 65536 * c + 16777216 * d ⌝ }
-{
-    a as u32 + 256 * (b as u32) + 65536 * (c as u32) + 16777216 * (d as u32)
-}
-
 // An image decomposed in labels and work of its size, and listed.
 fn list_within(
     w: u32,
@@ -78,7 +71,7 @@ fn list_bytes(input: &[u8], labels: &mut [u8], work: &mut [u8], out: &mut [u8]) 
     if input.len() < 6 {
         return answer::put_refusal(3, 0, out);
     }
-    let element = number(input[2], input[3], input[4], input[5]);
+    let element = numbers::number(input, 2);
     list_image(input[0], input[1], element, &input[6..], labels, work, out)
 }
 

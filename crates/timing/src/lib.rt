@@ -1,44 +1,17 @@
 // The public operations with C's calling convention, for bench/.
-use skeleton::Decomposed;
-use skeleton::Written;
-use thinning::Thinned;
+use calls::Reply;
 ghost use mathlib.Core.Path.{_≡_};
-ghost use Rattle.morphology.specs.Operations.{decomposed, eroded, opened, reconstructed, thin};
-ghost use Rattle.skeleton.specs.Decomposed.{answerOf as decomposedAnswer};
-ghost use Rattle.skeleton.specs.Written.{answerOf};
-ghost use Rattle.thinning.specs.Thinned.{answerOf as thinnedAnswer};
-ghost use Rattle.timing.specs.Values.{firstValue};
+ghost use Rattle.morphology.specs.Operations.{decomposed, eroded, minimised, opened, reconstructed, thin};
+ghost use Rattle.timing.specs.Values.{firstValue, valueOf};
 
-fn value(a: Written) -> u32
-    ensures { λ r. ⌜ r ≡ firstValue (answerOf a) ⌝ }
+// The first value, or the number of the refusal.
+fn value(r: Reply) -> u32
+    ensures { λ v. ⌜ v ≡ valueOf r ⌝ }
 {
-    match a {
-        Written::Refused(n) => n as u32,
-        Written::Area(n) => n,
+    if r.refusal != 0 {
+        return r.refusal as u32;
     }
-}
-
-fn points(a: Decomposed) -> u32
-    ensures { λ r. ⌜ r ≡ firstValue (decomposedAnswer a) ⌝ }
-{
-    match a {
-        Decomposed::Refused(n) => n as u32,
-        Decomposed::Blank => 0,
-        Decomposed::Skeleton { points, largest } => points,
-    }
-}
-
-fn passes(a: Thinned) -> u32
-    ensures { λ r. ⌜ r ≡ firstValue (thinnedAnswer a) ⌝ }
-{
-    match a {
-        Thinned::Refused(n) => n as u32,
-        Thinned::Done {
-            passes,
-            removed,
-            left,
-        } => passes,
-    }
+    r.first
 }
 
 #[no_mangle]
@@ -53,7 +26,7 @@ pub extern "C" fn time_erode(
 ) -> u32
     ensures { λ r. ⌜ r ≡ firstValue (eroded w h element n (now (image .entry)) (now (out .entry)) (now (work .entry)) .answer) ⌝ }
 {
-    value(skeleton::erode(w, h, element, n, image, out, work))
+    value(calls::of_written(skeleton::erode(w, h, element, n, image, out, work)))
 }
 
 #[no_mangle]
@@ -68,7 +41,7 @@ pub extern "C" fn time_open(
 ) -> u32
     ensures { λ r. ⌜ r ≡ firstValue (opened w h element n (now (image .entry)) (now (out .entry)) (now (work .entry)) .answer) ⌝ }
 {
-    value(skeleton::open(w, h, element, n, image, out, work))
+    value(calls::of_written(skeleton::open(w, h, element, n, image, out, work)))
 }
 
 #[no_mangle]
@@ -82,7 +55,7 @@ pub extern "C" fn time_decompose(
 ) -> u32
     ensures { λ r. ⌜ r ≡ firstValue (decomposed w h element (now (image .entry)) (now (labels .entry)) (now (work .entry)) .answer) ⌝ }
 {
-    points(skeleton::decompose(w, h, element, image, labels, work))
+    value(calls::of_decomposed(skeleton::decompose(w, h, element, image, labels, work)))
 }
 
 #[no_mangle]
@@ -97,12 +70,26 @@ pub extern "C" fn time_reconstruct(
 ) -> u32
     ensures { λ r. ⌜ r ≡ firstValue (reconstructed w h element cut (now (labels .entry)) (now (image .entry)) (now (work .entry)) .answer) ⌝ }
 {
-    value(skeleton::reconstruct(w, h, element, cut, labels, image, work))
+    value(calls::of_written(skeleton::reconstruct(w, h, element, cut, labels, image, work)))
+}
+
+#[no_mangle]
+pub extern "C" fn time_minimise(
+    w: u32,
+    h: u32,
+    element: u32,
+    labels: &mut [u8],
+    work: &mut [u8],
+    counters: &mut [u16],
+) -> u32
+    ensures { λ r. ⌜ r ≡ firstValue (minimised w h element (now (labels .entry)) (now (work .entry)) (now (counters .entry)) .answer) ⌝ }
+{
+    value(calls::of_minimised(minimal::minimise(w, h, element, labels, work, counters)))
 }
 
 #[no_mangle]
 pub extern "C" fn time_thin(w: u32, h: u32, image: &mut [u8], work: &mut [u8]) -> u32
     ensures { λ r. ⌜ r ≡ firstValue (thin w h (now (image .entry)) (now (work .entry)) .answer) ⌝ }
 {
-    passes(thinning::thin(w, h, image, work))
+    value(calls::of_thinned(thinning::thin(w, h, image, work)))
 }

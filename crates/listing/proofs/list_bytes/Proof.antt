@@ -20,18 +20,6 @@ same-length c = search needs
 returns : tie.Need-returns
 returns c = appended-as (sym (printed-short (now (c .before .before .before .before .before .before .before .before .before .args .input)) (c .before .before .before .before .if1 .taken))) (c .before .before .put-refusal .ensures)
 
-shared-slice-read-number : tie.Need-shared-slice-read-number
-shared-slice-read-number c = search needs
-
-shared-slice-read-number-2 : tie.Need-shared-slice-read-number-2
-shared-slice-read-number-2 c = search needs
-
-shared-slice-read-number-3 : tie.Need-shared-slice-read-number-3
-shared-slice-read-number-3 c = search needs
-
-shared-slice-read-number-4 : tie.Need-shared-slice-read-number-4
-shared-slice-read-number-4 c = search needs
-
 number-requires : tie.Need-number-requires
 number-requires c κs = search needs
 
@@ -51,7 +39,7 @@ part-list-image-end : tie.Need-part-list-image-end
 part-list-image-end c = search needs
 
 list-image-requires : tie.Need-list-image-requires
-list-image-requires c κs = c .before .before .before .before .before .before .before .before .before .before .before .before .before .before .before .before .pre
+list-image-requires c κs = search needs
 
 same-length-2 : tie.Need-same-length-2
 same-length-2 c = search needs
@@ -64,7 +52,7 @@ same-length-4 c = search needs
 
 returns-2 : tie.Need-returns-2
 returns-2 c =
-    let i = now (c .before .before .before .before .before .before .before .before .before .before .before .before .before .before .before .before .before .before .before .before .before .before .before .args .input) in
+    let i = now (c .before .before .before .before .before .before .before .before .before .before .before .before .before .before .before .before .before .before .before .args .input) in
     appended-as (printed-part i (length i - 6) (c .before .before .before .before .before .before .before .before .before .before .before .before .before .number .result) (omega arith) (omega arith) (c .before .before .before .before .before .before .before .before .before .before .before .before .before .number .ensures)) (c .before .before .before .before .before .before .list-image .ensures)
 
 pub list-bytes-spec : {M : Type 1} → statement M
@@ -74,10 +62,6 @@ list-bytes-spec =
     put-refusal-requires
     same-length
     returns
-    shared-slice-read-number
-    shared-slice-read-number-2
-    shared-slice-read-number-3
-    shared-slice-read-number-4
     number-requires
     shared-slice-read-list-image
     shared-slice-read-list-image-2

@@ -1,13 +1,16 @@
 -- `timing::time_reconstruct` meets its contract.
 use mathlib.Core.Path.{_∙_, ap}
-use borrow.Author.Needs.{needs}
 use Rattle.morphology.specs.Answers.{Outcome}
-use Rattle.timing.specs.Values.{firstValue}
+use Rattle.timing.specs.Values.{firstValue, valueOf}
+use borrow.Author.Needs.{needs}
 use Rattle.timing.proofs.time_reconstruct.Statement.{statement}
 use Rattle.timing.proofs.time_reconstruct.Tie as tie
 
 reconstruct-requires : tie.Need-reconstruct-requires
 reconstruct-requires c κs = search needs
+
+of-written-requires : tie.Need-of-written-requires
+of-written-requires c κs = search needs
 
 value-requires : tie.Need-value-requires
 value-requires c κs = search needs
@@ -19,8 +22,15 @@ same-length-2 : tie.Need-same-length-2
 same-length-2 c = search needs
 
 returns : tie.Need-returns
-returns c = c .value .ensures ∙ ap (λ (o : Outcome). firstValue (o .answer)) (c .before .before .before .before .before .reconstruct .ensures)
+returns c = c .value .ensures ∙ ap valueOf (c .before .of-written .ensures) ∙ ap (λ (o : Outcome). firstValue (o .answer)) (c .before .before .before .before .before .before .reconstruct .ensures)
 
 pub time-reconstruct-spec : {M : Type 1} → statement M
 time-reconstruct-spec =
-    tie.close (tie.spec reconstruct-requires value-requires same-length same-length-2 returns)
+    tie.close
+    (tie.spec
+    reconstruct-requires
+    of-written-requires
+    value-requires
+    same-length
+    same-length-2
+    returns)

@@ -1,27 +1,17 @@
 -- `timing::value` meets its contract.
-use mathlib.Core.Path.{_∙_, ap, sym}
+use borrow.Author.Tests.{eq-eqb, ne-eqb}
 use borrow.Author.Needs.{needs}
-use Rattle.skeleton.specs.Written.{answerOf}
-use Rattle.skeleton.specs.declared.Written.{Written}
-use Rattle.timing.specs.Values.{firstValue}
-use Rattle.timing.proofs.ValueLaws.{value-refused}
 use Rattle.timing.proofs.value.Statement.{statement}
 use Rattle.timing.proofs.value.Tie as tie
-
-enum-known-a : tie.Need-enum-known-a
-enum-known-a c = search needs
 
 cast-result : tie.Need-cast-result
 cast-result c = search needs
 
-enum-known-a-2 : tie.Need-enum-known-a-2
-enum-known-a-2 c = search needs
-
 returns : tie.Need-returns
-returns c = sym (ap (λ (a : Written). firstValue (answerOf a)) (c .before .a .given .1) ∙ value-refused _)
+returns c = simp (ne-eqb _ 0 (c .before .if1 .taken))
 
 returns-2 : tie.Need-returns-2
-returns-2 c = sym (ap (λ (a : Written). firstValue (answerOf a)) (c .before .a2 .given .1))
+returns-2 c = simp (eq-eqb _ 0 (c .if1 .left))
 
 pub value-spec : {M : Type 1} → statement M
-value-spec = tie.close (tie.spec enum-known-a cast-result enum-known-a-2 returns returns-2)
+value-spec = tie.close (tie.spec cast-result returns returns-2)

@@ -1,0 +1,75 @@
+-- A call by number is the operation's own; a reply says the answer that it was made of.
+use mathlib.Core.List.{List, [], _++_, _∷_}
+use mathlib.Core.Path.{_∙_, _≡_, ap, refl, sym}
+use Prim.Native.Nat.{_≤_, ℕ}
+use lib.ListN.{List·getD-eq-default}
+use Rattle.minimal.specs.Minimised.{answerOf as minimisedAnswer}
+use Rattle.minimal.specs.declared.Minimised.{Minimised}
+use Rattle.minimal.specs.declared.Minimised.the-variants.{Points, Refused as NotMinimised}
+use Rattle.morphology.specs.Answers.{Answer, Outcome, outcome}
+use Rattle.morphology.specs.Operations.{thin}
+use Rattle.skeleton.specs.Decomposed.{answerOf as decomposedAnswer}
+use Rattle.skeleton.specs.Written.{answerOf as writtenAnswer}
+use Rattle.skeleton.specs.declared.Decomposed.{Decomposed}
+use Rattle.skeleton.specs.declared.Decomposed.the-variants.{Blank, Refused as NotDecomposed, Skeleton}
+use Rattle.skeleton.specs.declared.Written.{Written}
+use Rattle.skeleton.specs.declared.Written.the-variants.{Area, Refused as NotWritten}
+use Rattle.thinning.specs.Hit.{answerOf as hitAnswer}
+use Rattle.thinning.specs.Thinned.{answerOf as thinnedAnswer}
+use Rattle.thinning.specs.declared.Hit.{Hit}
+use Rattle.thinning.specs.declared.Hit.the-variants.{Area as HitArea, Refused as NotHit}
+use Rattle.thinning.specs.declared.Thinned.{Thinned}
+use Rattle.thinning.specs.declared.Thinned.the-variants.{Done, Refused as NotThinned}
+use Rattle.calls.specs.Called.{beside, called, operations}
+use Rattle.calls.specs.Replies.{answerOf, replyOf}
+use Rattle.calls.specs.declared.Reply.{Reply}
+
+-- ---- an answer of at most three values, as a reply and back
+
+abbrev pub Kept : Answer → Type 0
+Kept a = answerOf (replyOf a) ≡ a
+
+pub written-kept : (d : Written) → Kept (writtenAnswer d)
+written-kept (NotWritten n) = refl
+written-kept (Area n) = refl
+
+pub decomposed-kept : (d : Decomposed) → Kept (decomposedAnswer d)
+decomposed-kept (NotDecomposed n) = refl
+decomposed-kept Blank = refl
+decomposed-kept (Skeleton n s) = refl
+
+pub minimised-kept : (d : Minimised) → Kept (minimisedAnswer d)
+minimised-kept (NotMinimised n) = refl
+minimised-kept (Points n) = refl
+
+pub hit-kept : (d : Hit) → Kept (hitAnswer d)
+hit-kept (NotHit n) = refl
+hit-kept (HitArea n) = refl
+
+pub thinned-kept : (d : Thinned) → Kept (thinnedAnswer d)
+thinned-kept (NotThinned n) = refl
+thinned-kept (Done p r n) = refl
+
+-- ---- what a call owes: the outcome, and a reply with 0 where it has no value
+
+abbrev pub Owed : Reply → List (List ℕ) → Outcome → Type 0
+Owed r l o = (outcome (answerOf r) l ≡ o) × (r ≡ replyOf (answerOf r))
+
+pub owed : {a : Answer} {r : Reply} (l : List (List ℕ)) {o p : Outcome} → Kept a → r ≡ replyOf a → outcome a l ≡ o → p ≡ o → Owed r l p
+owed {a} {r} l k e q g =
+    let s : answerOf r ≡ a = ap answerOf e ∙ k in (ap (λ (b : Answer). outcome b l) s ∙ q ∙ sym g, e ∙ ap replyOf (sym s))
+
+-- the same beside buffers that the operation does not have
+pub owed-beside : {a : Answer} {r : Reply} (l others : List (List ℕ)) {o p : Outcome} → Kept a → r ≡ replyOf a → outcome a l ≡ o → p ≡ beside o others
+    → Owed r (l ++ others) p
+owed-beside l others k e q g = owed (l ++ others) k e (ap (λ (o : Outcome). beside o others) q) g
+
+-- ---- the number of a call
+
+module _ (W H a b : ℕ) (x y z c : List ℕ) where
+  pub called-as : {op : ℕ} (k : ℕ) → op ≡ k → called op W H a b x y z c ≡ called k W H a b x y z c
+  called-as k e = ap (λ (n : ℕ). called n W H a b x y z c) e
+
+  pub called-thin : (op : ℕ) → 6 ≤ op → called op W H a b x y z c ≡ beside (thin W H y z) (c ∷ [])
+  unfolding called
+  called-thin op h = List·getD-eq-default (operations W H a b x y z c) _ h

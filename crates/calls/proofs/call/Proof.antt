@@ -1,0 +1,175 @@
+-- `calls::call` meets its contract.
+use mathlib.Core.List.{[], _∷_}
+use native.Mathlib.Omega.{arith}
+use denote.Ref.{now}
+use Rattle.calls.specs.Called.{called}
+use Rattle.calls.proofs.CallLaws.{called-as, called-thin, decomposed-kept, hit-kept, minimised-kept, owed, owed-beside, thinned-kept, written-kept}
+use borrow.Author.Needs.{needs}
+use Rattle.calls.proofs.call.Statement.{statement}
+use Rattle.calls.proofs.call.Tie as tie
+
+erode-requires : tie.Need-erode-requires
+erode-requires c κs = search needs
+
+of-written-requires : tie.Need-of-written-requires
+of-written-requires c κs = search needs
+
+open-requires : tie.Need-open-requires
+open-requires c κs = search needs
+
+of-written-requires-2 : tie.Need-of-written-requires-2
+of-written-requires-2 c κs = search needs
+
+decompose-requires : tie.Need-decompose-requires
+decompose-requires c κs = search needs
+
+of-decomposed-requires : tie.Need-of-decomposed-requires
+of-decomposed-requires c κs = search needs
+
+reconstruct-requires : tie.Need-reconstruct-requires
+reconstruct-requires c κs = search needs
+
+of-written-requires-3 : tie.Need-of-written-requires-3
+of-written-requires-3 c κs = search needs
+
+minimise-requires : tie.Need-minimise-requires
+minimise-requires c κs = search needs
+
+of-minimised-requires : tie.Need-of-minimised-requires
+of-minimised-requires c κs = search needs
+
+hit-or-miss-requires : tie.Need-hit-or-miss-requires
+hit-or-miss-requires c κs = search needs
+
+of-hit-requires : tie.Need-of-hit-requires
+of-hit-requires c κs = search needs
+
+thin-requires : tie.Need-thin-requires
+thin-requires c κs = search needs
+
+of-thinned-requires : tie.Need-of-thinned-requires
+of-thinned-requires c κs = search needs
+
+same-length : tie.Need-same-length
+same-length c = search needs
+
+same-length-2 : tie.Need-same-length-2
+same-length-2 c = search needs
+
+returns : tie.Need-returns
+unfolding called
+returns c =
+    let a = c .before .before .before .before .before .before .before .before .before .before .before .before .before .args in
+    owed-beside (_ ∷ _ ∷ []) (_ ∷ []) (written-kept (c .before .before .before .before .before .erode .result)) (c .of-written .ensures) (c .before .before .before .before .before .erode .ensures) (called-as (a .w) (a .h) (a .a) (a .b) (now (a .x)) (now (a .y)) (now (a .z)) (now (a .c)) 0 (c .before .before .before .before .before .before .before .before .match .keys1))
+
+same-length-3 : tie.Need-same-length-3
+same-length-3 c = search needs
+
+same-length-4 : tie.Need-same-length-4
+same-length-4 c = search needs
+
+returns-2 : tie.Need-returns-2
+unfolding called
+returns-2 c =
+    let a = c .before .before .before .before .before .before .before .before .before .before .before .before .before .args in
+    owed-beside (_ ∷ _ ∷ []) (_ ∷ []) (written-kept (c .before .before .before .before .before .«open» .result)) (c .of-written2 .ensures) (c .before .before .before .before .before .«open» .ensures) (called-as (a .w) (a .h) (a .a) (a .b) (now (a .x)) (now (a .y)) (now (a .z)) (now (a .c)) 1 (c .before .before .before .before .before .before .before .before .match .keys2))
+
+same-length-5 : tie.Need-same-length-5
+same-length-5 c = search needs
+
+same-length-6 : tie.Need-same-length-6
+same-length-6 c = search needs
+
+returns-3 : tie.Need-returns-3
+unfolding called
+returns-3 c =
+    let a = c .before .before .before .before .before .before .before .before .before .before .before .before .before .args in
+    owed-beside (_ ∷ _ ∷ []) (_ ∷ []) (decomposed-kept (c .before .before .before .before .before .decompose .result)) (c .of-decomposed .ensures) (c .before .before .before .before .before .decompose .ensures) (called-as (a .w) (a .h) (a .a) (a .b) (now (a .x)) (now (a .y)) (now (a .z)) (now (a .c)) 2 (c .before .before .before .before .before .before .before .before .match .keys3))
+
+same-length-7 : tie.Need-same-length-7
+same-length-7 c = search needs
+
+same-length-8 : tie.Need-same-length-8
+same-length-8 c = search needs
+
+returns-4 : tie.Need-returns-4
+unfolding called
+returns-4 c =
+    let a = c .before .before .before .before .before .before .before .before .before .before .before .before .before .args in
+    owed-beside (_ ∷ _ ∷ []) (_ ∷ []) (written-kept (c .before .before .before .before .before .reconstruct .result)) (c .of-written3 .ensures) (c .before .before .before .before .before .reconstruct .ensures) (called-as (a .w) (a .h) (a .a) (a .b) (now (a .x)) (now (a .y)) (now (a .z)) (now (a .c)) 3 (c .before .before .before .before .before .before .before .before .match .keys4))
+
+same-length-9 : tie.Need-same-length-9
+same-length-9 c = search needs
+
+same-length-10 : tie.Need-same-length-10
+same-length-10 c = search needs
+
+same-length-11 : tie.Need-same-length-11
+same-length-11 c = search needs
+
+returns-5 : tie.Need-returns-5
+unfolding called
+returns-5 c =
+    let a = c .before .before .before .before .before .before .before .before .before .before .before .before .before .before .before .before .args in
+    owed (_ ∷ _ ∷ _ ∷ []) (minimised-kept (c .before .before .before .before .before .before .before .minimise .result)) (c .of-minimised .ensures) (c .before .before .before .before .before .before .before .minimise .ensures) (called-as (a .w) (a .h) (a .a) (a .b) (now (a .x)) (now (a .y)) (now (a .z)) (now (a .c)) 4 (c .before .before .before .before .before .before .before .before .before .before .before .match .keys5))
+
+same-length-12 : tie.Need-same-length-12
+same-length-12 c = search needs
+
+returns-6 : tie.Need-returns-6
+unfolding called
+returns-6 c =
+    let a = c .before .before .before .before .before .before .before .before .before .before .args in
+    owed-beside (_ ∷ []) (_ ∷ _ ∷ []) (hit-kept (c .before .before .before .hit-or-miss .result)) (c .of-hit .ensures) (c .before .before .before .hit-or-miss .ensures) (called-as (a .w) (a .h) (a .a) (a .b) (now (a .x)) (now (a .y)) (now (a .z)) (now (a .c)) 5 (c .before .before .before .before .before .match .keys6))
+
+same-length-13 : tie.Need-same-length-13
+same-length-13 c = search needs
+
+same-length-14 : tie.Need-same-length-14
+same-length-14 c = search needs
+
+returns-7 : tie.Need-returns-7
+unfolding called
+returns-7 c =
+    let a = c .before .before .before .before .before .before .before .before .before .before .before .before .before .args in
+    owed-beside (_ ∷ _ ∷ []) (_ ∷ []) (thinned-kept (c .before .before .before .before .before .thin .result)) (c .of-thinned .ensures) (c .before .before .before .before .before .thin .ensures) (called-thin (a .w) (a .h) (a .a) (a .b) (now (a .x)) (now (a .y)) (now (a .z)) (now (a .c)) (a .op) (omega arith))
+
+pub call-spec : {M : Type 1} → statement M
+call-spec =
+    tie.close
+    (tie.spec
+    erode-requires
+    of-written-requires
+    open-requires
+    of-written-requires-2
+    decompose-requires
+    of-decomposed-requires
+    reconstruct-requires
+    of-written-requires-3
+    minimise-requires
+    of-minimised-requires
+    hit-or-miss-requires
+    of-hit-requires
+    thin-requires
+    of-thinned-requires
+    same-length
+    same-length-2
+    returns
+    same-length-3
+    same-length-4
+    returns-2
+    same-length-5
+    same-length-6
+    returns-3
+    same-length-7
+    same-length-8
+    returns-4
+    same-length-9
+    same-length-10
+    same-length-11
+    returns-5
+    same-length-12
+    returns-6
+    same-length-13
+    same-length-14
+    returns-7)

@@ -1,0 +1,45 @@
+-- `calls::of_decomposed` meets its contract.
+use mathlib.Core.Path.{_∙_, ap, sym}
+use Rattle.skeleton.specs.Decomposed.{answerOf}
+use Rattle.skeleton.specs.declared.Decomposed.{Decomposed}
+use Rattle.calls.specs.Replies.{replyOf}
+use borrow.Author.Needs.{needs}
+use Rattle.calls.proofs.of_decomposed.Statement.{statement}
+use Rattle.calls.proofs.of_decomposed.Tie as tie
+
+enum-known-a : tie.Need-enum-known-a
+enum-known-a c = search needs
+
+refused-requires : tie.Need-refused-requires
+refused-requires c κs = search needs
+
+enum-told : tie.Need-enum-told
+enum-told c = search needs
+
+one-requires : tie.Need-one-requires
+one-requires c κs = search needs
+
+enum-known-a-2 : tie.Need-enum-known-a-2
+enum-known-a-2 c = search needs
+
+returns : tie.Need-returns
+returns c = c .refused .ensures ∙ sym (ap (λ (a : Decomposed). replyOf (answerOf a)) (c .before .before .a .given .1))
+
+returns-2 : tie.Need-returns-2
+returns-2 c = c .one .ensures ∙ sym (ap (λ (a : Decomposed). replyOf (answerOf a)) (c .before .enum-told .given .1))
+
+returns-3 : tie.Need-returns-3
+returns-3 c = sym (ap (λ (a : Decomposed). replyOf (answerOf a)) (c .before .a2 .given .1))
+
+pub of-decomposed-spec : {M : Type 1} → statement M
+of-decomposed-spec =
+    tie.close
+    (tie.spec
+    enum-known-a
+    refused-requires
+    enum-told
+    one-requires
+    enum-known-a-2
+    returns
+    returns-2
+    returns-3)

@@ -1,0 +1,147 @@
+// A call of a public operation by its number, with its answer as numbers.
+mod format;
+
+pub use format::answer;
+use minimal::Minimised;
+use skeleton::Decomposed;
+use skeleton::Written;
+use thinning::Hit;
+use thinning::Thinned;
+ghost use mathlib.Core.Path.{_≡_};
+ghost use mathlib.Core.List.{[], _∷_};
+ghost use Rattle.morphology.specs.Answers.{answered, outcome, refused as refusedAnswer};
+ghost use Rattle.minimal.specs.Minimised.{answerOf as minimisedAnswer};
+ghost use Rattle.skeleton.specs.Decomposed.{answerOf as decomposedAnswer};
+ghost use Rattle.skeleton.specs.Written.{answerOf as writtenAnswer};
+ghost use Rattle.thinning.specs.Hit.{answerOf as hitAnswer};
+ghost use Rattle.thinning.specs.Thinned.{answerOf as thinnedAnswer};
+ghost use Rattle.calls.specs.Called.{called};
+ghost use Rattle.calls.specs.Replies.{answerOf, replyOf};
+
+// An answer: the refusal's number, 0 if there is none, and how many values there are, with 0 for those that are not there.
+pub struct Reply {
+    pub refusal: u8,
+    pub count: u8,
+    pub first: u32,
+    pub second: u32,
+    pub third: u32,
+}
+
+// A refusal.
+fn refused(n: u8) -> Reply
+    ensures { λ r. ⌜ r ≡ replyOf (refusedAnswer n) ⌝ }
+{
+    Reply {
+        refusal: n,
+        count: 0,
+        first: 0,
+        second: 0,
+        third: 0,
+    }
+}
+
+// One value.
+fn one(v: u32) -> Reply
+    ensures { λ r. ⌜ r ≡ replyOf (answered (v ∷ [])) ⌝ }
+{
+    Reply {
+        refusal: 0,
+        count: 1,
+        first: v,
+        second: 0,
+        third: 0,
+    }
+}
+
+// The answer of an erosion, an opening or a reconstruction.
+pub fn of_written(a: Written) -> Reply
+    ensures { λ r. ⌜ r ≡ replyOf (writtenAnswer a) ⌝ }
+{
+    match a {
+        Written::Refused(n) => refused(n),
+        Written::Area(n) => one(n),
+    }
+}
+
+// The answer of a decomposition.
+pub fn of_decomposed(a: Decomposed) -> Reply
+    ensures { λ r. ⌜ r ≡ replyOf (decomposedAnswer a) ⌝ }
+{
+    match a {
+        Decomposed::Refused(n) => refused(n),
+        Decomposed::Blank => one(0),
+        Decomposed::Skeleton { points, largest } => Reply {
+            refusal: 0,
+            count: 2,
+            first: points,
+            second: largest,
+            third: 0,
+        },
+    }
+}
+
+// The answer of a minimisation.
+pub fn of_minimised(a: Minimised) -> Reply
+    ensures { λ r. ⌜ r ≡ replyOf (minimisedAnswer a) ⌝ }
+{
+    match a {
+        Minimised::Refused(n) => refused(n),
+        Minimised::Points(n) => one(n),
+    }
+}
+
+// The answer of hit-or-miss.
+pub fn of_hit(a: Hit) -> Reply
+    ensures { λ r. ⌜ r ≡ replyOf (hitAnswer a) ⌝ }
+{
+    match a {
+        Hit::Refused(n) => refused(n),
+        Hit::Area(n) => one(n),
+    }
+}
+
+// The answer of a thinning.
+pub fn of_thinned(a: Thinned) -> Reply
+    ensures { λ r. ⌜ r ≡ replyOf (thinnedAnswer a) ⌝ }
+{
+    match a {
+        Thinned::Refused(n) => refused(n),
+        Thinned::Done {
+            passes,
+            removed,
+            left,
+        } => Reply {
+            refusal: 0,
+            count: 3,
+            first: passes,
+            second: removed,
+            third: left,
+        },
+    }
+}
+
+// Calls operation `op`: x is read, y, z and c are lent. A buffer that the operation does not have stays as it is.
+pub fn call(
+    op: u8,
+    w: u32,
+    h: u32,
+    a: u32,
+    b: u32,
+    x: &[u8],
+    y: &mut [u8],
+    z: &mut [u8],
+    c: &mut [u16],
+) -> Reply
+    ensures outcome { λ r. ⌜ outcome (answerOf r) (now (y .exit) ∷ now (z .exit) ∷ now (c .exit) ∷ []) ≡ called op w h a b (now (x .entry)) (now (y .entry)) (now (z .entry)) (now (c .entry)) ⌝ }
+    ensures zeros { λ r. ⌜ r ≡ replyOf (answerOf r) ⌝ }
+{
+    match op {
+        0 => of_written(skeleton::erode(w, h, a, b, x, y, z)),
+        1 => of_written(skeleton::open(w, h, a, b, x, y, z)),
+        2 => of_decomposed(skeleton::decompose(w, h, a, x, y, z)),
+        3 => of_written(skeleton::reconstruct(w, h, a, b, x, y, z)),
+        4 => of_minimised(minimal::minimise(w, h, a, y, z, c)),
+        5 => of_hit(thinning::hit_or_miss(w, h, a, b, x, y)),
+        _ => of_thinned(thinning::thin(w, h, y, z)),
+    }
+}
