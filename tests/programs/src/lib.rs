@@ -7,7 +7,9 @@ use std::thread;
 
 /// What a program writes to standard output for these bytes of standard input, handed over in pieces of at most so many bytes.
 pub fn run(program: &str, input: &[u8], piece: usize) -> Vec<u8> {
-    let path = Path::new(env!("CARGO_MANIFEST_DIR")).join("../../target/bin").join(program);
+    let path = Path::new(env!("CARGO_MANIFEST_DIR"))
+        .join("../../target/bin")
+        .join(program);
     let mut child = Command::new(&path)
         .stdin(Stdio::piped())
         .stdout(Stdio::piped())

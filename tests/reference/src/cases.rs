@@ -2,9 +2,13 @@
 //! its arguments and lent buffers, and `run` says what must come of it.
 
 mod damage;
+mod refused;
+mod settled;
 mod sound;
 
 pub use damage::{Damage, DAMAGES};
+pub use refused::{accepted, damaged, Damaged};
+pub use settled::{settled, Settled};
 pub use sound::{cut_or_n, element, image, labels, mask, side};
 
 use crate::element::ORIGIN;
@@ -115,7 +119,35 @@ pub struct Parts<'a> {
     pub counters: Option<&'a mut Vec<u16>>,
 }
 
+/// The operations, in the order of `Call`.
+pub const OPERATIONS: [&str; 7] = [
+    "erode",
+    "open",
+    "decompose",
+    "reconstruct",
+    "minimise",
+    "hit_or_miss",
+    "thin",
+];
+
 impl Call {
+    /// The place of the operation in `OPERATIONS`.
+    pub fn operation(&self) -> usize {
+        match self {
+            Call::Erode { .. } => 0,
+            Call::Open { .. } => 1,
+            Call::Decompose { .. } => 2,
+            Call::Reconstruct { .. } => 3,
+            Call::Minimise { .. } => 4,
+            Call::HitOrMiss { .. } => 5,
+            Call::Thin { .. } => 6,
+        }
+    }
+
+    pub fn name(&self) -> &'static str {
+        OPERATIONS[self.operation()]
+    }
+
     pub fn parts(&mut self) -> Parts<'_> {
         let none = |w, h| Parts {
             w,
