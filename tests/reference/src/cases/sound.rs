@@ -5,6 +5,7 @@ use crate::element::{folds, ORIGIN};
 use crate::frame::{Frame, Set};
 use crate::rng::Rng;
 use crate::{skeleton, GOLAY_L, LEFT, PLUS, RIGHT, ROUND, SQUARE};
+use std::ops::Range;
 
 /// A side: 1 to 40 and 248 to 255, small ones more often.
 pub fn side(rng: &mut Rng) -> u32 {
@@ -25,6 +26,11 @@ pub fn element(rng: &mut Rng) -> u32 {
     let bits = rng.pick(&[0..25, 0..25, 12..25, 0..13]);
     let largest = rng.pick(&[2, 4, bits.len()]);
     let points = rng.between(2, largest) as u32;
+    element_of(rng, points, bits)
+}
+
+/// An element of so many points, on these bits. They have the origin's and are enough.
+pub fn element_of(rng: &mut Rng, points: u32, bits: Range<usize>) -> u32 {
     let mut element = ORIGIN;
     while element.count_ones() < points {
         element |= 1 << rng.between(bits.start, bits.end - 1);
