@@ -164,7 +164,7 @@ fn every_kind_of_image() {
     let mut met = Met::new();
     for kind in IMAGE_KINDS {
         let mut touched = [0; 4];
-        for seed in 0..36 {
+        for seed in 0..240 {
             let mut block = Block::new(format!("{kind:?}"), seed);
             let (w, h) = (block.w, block.h);
             let image = image_of(&mut block.rng, kind, w, h);
@@ -215,7 +215,7 @@ fn every_kind_of_labels() {
     let mut replay = Replay::start();
     for kind in LABELS_KINDS {
         let mut met = Met::new();
-        for seed in 100..160 {
+        for seed in 1000..1300 {
             let mut block = Block::new(format!("{kind:?}"), seed);
             let (w, h, element) = (block.w, block.h, block.element);
             let labels = labels_of(&mut block.rng, kind, w, h, element);

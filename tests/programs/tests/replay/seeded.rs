@@ -9,7 +9,7 @@ use reference::cases::{call, OPERATIONS};
 use reference::Answer;
 use std::collections::BTreeMap;
 
-const CALLS: u64 = 40_000;
+const CALLS: u64 = 100_000;
 
 fn option(name: &str) -> Option<u64> {
     let text = std::env::var(name).ok()?;
@@ -73,7 +73,7 @@ fn seeded_calls() {
         }
     }
     for operation in 0..=4 {
-        (2..=25).for_each(|points| reached(operation, "points", points, 1));
+        (2..=25).for_each(|points| reached(operation, "points", points, 5));
         for element in [473536, 145536, 15728622, 12288, 6144] {
             reached(operation, "element", element, 50);
         }

@@ -70,7 +70,7 @@ fn a_list_of_sieves_is_one_opening_by_the_largest_cut() {
     // Empty lists, refusals at the first and at the second call, lists of two or more that
     // are not refused, lists that leave some and take some.
     let [mut empty, mut first, mut second, mut longer, mut some] = [0; 5];
-    for seed in 0..1000 {
+    for seed in 0..3000 {
         let rng = &mut Rng::new(seed);
         let (w, h, element) = (side(rng), side(rng), element(rng));
         let (image, name) = (image(rng, w, h), format!("sieves, seed {seed}"));
