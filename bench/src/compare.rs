@@ -43,6 +43,11 @@ pub fn heading(leptonica: &str) {
     println!("{}", if cfg!(leptonica) { &third } else { "" });
 }
 
+/// Whether a line has all the words given.
+pub fn is_selected(line: &str) -> bool {
+    std::env::args().skip(1).all(|word| line.contains(&word))
+}
+
 fn columns([operation, input, element, n]: [&str; 4]) -> String {
     format!("{operation:<11} {input:<14} {element:<7} {n:>6}")
 }
@@ -59,7 +64,7 @@ pub fn compare(
     other: impl Fn() -> Option<Other>,
 ) {
     let columns = columns(title);
-    if !std::env::args().skip(1).all(|word| columns.contains(&word)) {
+    if !is_selected(&columns) {
         return;
     }
     let baseline = |lent: &mut Lent| baseline(lent).expect("sound arguments");
@@ -103,8 +108,14 @@ pub fn compare(
     }
 }
 
+/// The best time of a call, in microseconds.
+pub fn time(lent: &mut Lent, call: impl Fn(&mut Lent) -> u32) -> f64 {
+    let [time] = best([&mut |calls| Some(round(calls, lent, None, &call))]);
+    time.unwrap_or(0.0)
+}
+
 /// The best time of a call of each side, in microseconds. The sides take turns.
-fn best(sides: [&mut dyn FnMut(u32) -> Option<Duration>; 3]) -> [Option<f64>; 3] {
+fn best<const N: usize>(sides: [&mut dyn FnMut(u32) -> Option<Duration>; N]) -> [Option<f64>; N] {
     // Each side has as many calls in a round as it needs.
     let mut timed = sides.map(|side| {
         let mut calls = 1;

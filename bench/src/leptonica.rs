@@ -67,34 +67,33 @@ pub fn note() -> String {
     )
 }
 
-/// An image of Leptonica's; `border` pixels of background stand around the sheet.
+/// An image of Leptonica's.
 struct Image {
     pix: Cell<P>,
-    border: i32,
 }
 
 // All calls below are handed images and elements that live; their sizes are the same.
 impl Image {
-    fn new(depth: i32, border: i32) -> Image {
-        let side = SIDE as i32 + 2 * border;
-        let pix = Cell::new(unsafe { pixCreate(side, side, depth) });
-        Image { pix, border }
+    fn new(depth: i32) -> Image {
+        let pix = unsafe { pixCreate(SIDE as i32, SIDE as i32, depth) };
+        Image {
+            pix: Cell::new(pix),
+        }
     }
 
-    fn of(depth: i32, border: i32, value: impl Fn(usize, usize) -> u8) -> Image {
-        let image = Image::new(depth, border);
+    fn of(depth: i32, value: impl Fn(usize, usize) -> u8) -> Image {
+        let image = Image::new(depth);
         each_pixel(|x, y| image.set(x, y, value(x, y) as u32));
         image
     }
 
     fn set(&self, x: usize, y: usize, value: u32) {
-        let (x, y) = (x as i32 + self.border, y as i32 + self.border);
-        unsafe { pixSetPixel(self.pix.get(), x, y, value) };
+        unsafe { pixSetPixel(self.pix.get(), x as i32, y as i32, value) };
     }
 
     fn get(&self, x: usize, y: usize) -> u32 {
-        let (mut value, x, y) = (0, x as i32 + self.border, y as i32 + self.border);
-        unsafe { pixGetPixel(self.pix.get(), x, y, &mut value) };
+        let mut value = 0;
+        unsafe { pixGetPixel(self.pix.get(), x as i32, y as i32, &mut value) };
         value
     }
 
@@ -172,10 +171,10 @@ const SQUARE: u32 = 473536;
 /// end once nothing is left.
 pub fn erode_or_open(opens: bool, element: u32, n: u32, image: &[u8]) -> Option<Other> {
     let (from, sel) = (
-        Image::of(1, 0, |x, y| pixel(image, x, y)),
+        Image::of(1, |x, y| pixel(image, x, y)),
         element_sel(element),
     );
-    let (out, spare) = (Rc::new(Image::new(1, 0)), Image::new(1, 0));
+    let (out, spare) = (Rc::new(Image::new(1)), Image::new(1));
     let result = out.clone();
     let run = move |way: Way| {
         let brick = |way: unsafe extern "C" fn(P, P, i32, i32) -> P| {
@@ -230,7 +229,7 @@ enum Way {
 /// The quickest way that leaves what n squares leave.
 fn quickest(run: &impl Fn(Way) -> u32, result: &Image) -> Way {
     run(Way::Times);
-    let wanted = Image::new(1, 0);
+    let wanted = Image::new(1);
     wanted.copy(result);
     let mut ways = vec![];
     for way in [Way::Times, Way::Brick, Way::Composite] {
@@ -249,11 +248,11 @@ fn quickest(run: &impl Fn(Way) -> u32, result: &Image) -> Way {
 /// Decomposition by Leptonica's erosion, dilation, difference and masked labels.
 pub fn decompose(element: u32, image: &[u8]) -> Option<Other> {
     let (from, sel) = (
-        Image::of(1, 0, |x, y| pixel(image, x, y)),
+        Image::of(1, |x, y| pixel(image, x, y)),
         element_sel(element),
     );
-    let labels = Rc::new(Image::new(8, 0));
-    let planes = [0; 3].map(|_| Image::new(1, 0));
+    let labels = Rc::new(Image::new(8));
+    let planes = [0; 3].map(|_| Image::new(1));
     let result = labels.clone();
     let call = move || {
         let [x, eroded, rest] = &planes;
@@ -284,11 +283,11 @@ pub fn decompose(element: u32, image: &[u8]) -> Option<Other> {
 /// Reconstruction by Leptonica's masks of a label, unions and dilations.
 pub fn reconstruct(element: u32, cut: u32, labels: &[u8]) -> Option<Other> {
     let (labels, sel) = (
-        Image::of(8, 0, |x, y| label(labels, x, y)),
+        Image::of(8, |x, y| label(labels, x, y)),
         element_sel(element),
     );
-    let out = Rc::new(Image::new(1, 0));
-    let (spare, result) = (Image::new(1, 0), out.clone());
+    let out = Rc::new(Image::new(1));
+    let (spare, result) = (Image::new(1), out.clone());
     let call = move || {
         let dilate = || {
             if !out.is_empty() {
@@ -338,18 +337,17 @@ const GOLAY_L: [(u32, u32); 8] = [
     (176, 11),
 ];
 
-/// Thinning by the house set with Leptonica's hit-or-miss. It finds no hit near the border of
-/// an image, so that the sheet has a border of one pixel.
+/// Thinning by the house set with Leptonica's hit-or-miss.
 pub fn thin(image: &[u8]) -> Option<Other> {
-    let from = Image::of(1, 1, |x, y| pixel(image, x, y));
+    let from = Image::of(1, |x, y| pixel(image, x, y));
     let kind = |(fg, bg): (u32, u32), bit: i32| match (fg >> bit & 1, bg >> bit & 1) {
         (1, _) => HIT,
         (_, 1) => MISS,
         _ => 0,
     };
     let masks = GOLAY_L.map(|mask| sel(3, |bit| kind(mask, bit)));
-    let out = Rc::new(Image::new(1, 1));
-    let (hits, result) = (Image::new(1, 1), out.clone());
+    let out = Rc::new(Image::new(1));
+    let (hits, result) = (Image::new(1), out.clone());
     let call = move || {
         out.copy(&from);
         let (mut passes, mut area) = (0, out.area(table()));
@@ -377,7 +375,7 @@ pub fn thin(image: &[u8]) -> Option<Other> {
 
 /// Leptonica's own thinning, 8-connected, to the end: another operation.
 pub fn own_thin(image: &[u8]) -> Option<Other> {
-    let from = Image::of(1, 0, |x, y| pixel(image, x, y));
+    let from = Image::of(1, |x, y| pixel(image, x, y));
     let call = move || {
         let mut thinned = unsafe { pixThinConnected(from.pix.get(), THIN_FG, 8, 0) };
         unsafe { pixDestroy(&mut thinned) };

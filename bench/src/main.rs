@@ -2,6 +2,7 @@
 //! arguments select the lines that have all of them.
 
 mod compare;
+mod growth;
 #[cfg_attr(not(leptonica), path = "leptonica_absent.rs")]
 mod leptonica;
 mod proved;
@@ -42,6 +43,7 @@ fn main() {
     for (input, image) in images() {
         thin(input, &image);
     }
+    growth::tables();
 }
 
 /// What most calls are lent: an image and work. Work, and what is only written, hold anything.
