@@ -3,6 +3,8 @@
 
 mod compare;
 mod growth;
+// Which of its functions are called depends on what the linked library has.
+#[allow(dead_code)]
 #[cfg_attr(not(leptonica), path = "leptonica_absent.rs")]
 mod leptonica;
 mod proved;
