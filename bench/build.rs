@@ -1,9 +1,21 @@
-//! TIMING_LIB names the folder of libtiming.a, the proved functions as a static library.
+//! TIMING_LIB names the folder of libtiming.a, the proved functions as a static library. With it,
+//! Leptonica is linked too where pkg-config finds it (Debian's libleptonica-dev).
+
+use std::process::Command;
 
 fn main() {
+    println!("cargo:rustc-check-cfg=cfg(leptonica)");
     println!("cargo:rerun-if-env-changed=TIMING_LIB");
-    if let Ok(folder) = std::env::var("TIMING_LIB") {
-        println!("cargo:rustc-link-search=native={folder}");
-        println!("cargo:rerun-if-changed={folder}/libtiming.a");
+    let Ok(folder) = std::env::var("TIMING_LIB") else {
+        return;
+    };
+    println!("cargo:rustc-link-search=native={folder}");
+    println!("cargo:rerun-if-changed={folder}/libtiming.a");
+    let found = Command::new("pkg-config").args(["--libs", "lept"]).output();
+    if let Some(found) = found.ok().filter(|found| found.status.success()) {
+        println!("cargo:rustc-cfg=leptonica");
+        for flag in String::from_utf8_lossy(&found.stdout).split_whitespace() {
+            println!("cargo:rustc-link-arg-bins={flag}");
+        }
     }
 }

@@ -18,34 +18,53 @@ pub struct Lent {
     pub counters: Vec<u16>,
 }
 
-pub fn heading() {
+/// A third side: a call that answers a number, and whether what it left is what the proved
+/// function left. A call that does something else has nothing to compare.
+pub struct Other {
+    pub call: Box<dyn Fn() -> u32>,
+    pub same: Option<Box<Same>>,
+}
+
+type Same = dyn Fn(&Lent) -> bool;
+
+pub fn heading(leptonica: &str) {
     let cpu = std::fs::read_to_string("/proc/cpuinfo").unwrap_or_default();
     let model = cpu.lines().find(|line| line.starts_with("model name"));
     println!("{}", model.unwrap_or("model name: unknown"));
     println!("{SIDE} by {SIDE}; microseconds a call, best of {ROUNDS} rounds of {ROUND:?} or more, in turns.");
-    println!("Both sides optimised. Lent buffers are warm and not cleared before a call.\n");
+    println!("All sides optimised. Lent buffers are warm and not cleared before a call.");
+    println!("Leptonica: {leptonica}\n");
     let columns = columns(["operation", "input", "element", "n, cut"]);
-    println!(
+    print!(
         "{columns} {:>10} {:>10} {:>6}",
         "baseline", "proved", "ratio"
     );
+    let third = format!(" {:>10} {:>6}", "leptonica", "ratio");
+    println!("{}", if cfg!(leptonica) { &third } else { "" });
+}
+
+/// Whether a line has all the words given.
+pub fn is_selected(line: &str) -> bool {
+    std::env::args().skip(1).all(|word| line.contains(&word))
 }
 
 fn columns([operation, input, element, n]: [&str; 4]) -> String {
     format!("{operation:<11} {input:<14} {element:<7} {n:>6}")
 }
 
-/// Sees that both sides give the same answer and the same bytes, times them and prints a line.
-/// A call that writes what it reads is `in_place`.
+/// Sees that all sides give the same answer and the same bytes, times them and prints a line:
+/// the ratios are those of the proved function to the side before them. A call that writes what
+/// it reads is `in_place`.
 pub fn compare(
     title: [&str; 4],
     lent: &Lent,
     in_place: bool,
     baseline: impl Fn(&mut Lent) -> Result<u32, u8>,
     proved: impl Fn(&mut Lent) -> u32,
+    other: impl Fn() -> Option<Other>,
 ) {
     let columns = columns(title);
-    if !std::env::args().skip(1).all(|word| columns.contains(&word)) {
+    if !is_selected(&columns) {
         return;
     }
     let baseline = |lent: &mut Lent| baseline(lent).expect("sound arguments");
@@ -56,24 +75,62 @@ pub fn compare(
         "{columns}: the answers differ: {answers:?}"
     );
     assert!(of_proved == of_baseline, "{columns}: the lent bytes differ");
-    let restore = in_place.then_some(lent);
-    let mut calls = 1;
-    while round(calls, &mut of_proved, restore, &proved) < ROUND
-        || round(calls, &mut of_baseline, restore, baseline) < ROUND
+    let other = other();
+    if let Some(Other {
+        call,
+        same: Some(same),
+    }) = &other
     {
-        calls *= 2;
+        assert!(call() == answers.0, "{columns}: Leptonica's answer differs");
+        assert!(same(&of_proved), "{columns}: Leptonica's pixels differ");
     }
-    let mut best = (Duration::MAX, Duration::MAX);
+    let restore = in_place.then_some(lent);
+    let mut time_proved = |calls| round(calls, &mut of_proved, restore, &proved);
+    let mut time_baseline = |calls| round(calls, &mut of_baseline, restore, baseline);
+    let mut time_other = |calls| {
+        let call = other.as_ref().map(|other| &other.call)?;
+        Some(round(calls, &mut Lent::default(), None, |_| call()))
+    };
+    let sides: [&mut dyn FnMut(u32) -> Option<Duration>; 3] = [
+        &mut |calls| Some(time_proved(calls)),
+        &mut |calls| Some(time_baseline(calls)),
+        &mut time_other,
+    ];
+    let [proved, baseline, other] = best(sides);
+    let (proved, baseline) = (proved.unwrap_or(0.0), baseline.unwrap_or(0.0));
+    print!(
+        "{columns} {baseline:>10.2} {proved:>10.2} {:>6.2}",
+        proved / baseline
+    );
+    match other {
+        Some(other) => println!(" {other:>10.2} {:>6.2}", proved / other),
+        None => println!(),
+    }
+}
+
+/// The best time of a call, in microseconds.
+pub fn time(lent: &mut Lent, call: impl Fn(&mut Lent) -> u32) -> f64 {
+    let [time] = best([&mut |calls| Some(round(calls, lent, None, &call))]);
+    time.unwrap_or(0.0)
+}
+
+/// The best time of a call of each side, in microseconds. The sides take turns.
+fn best<const N: usize>(sides: [&mut dyn FnMut(u32) -> Option<Duration>; N]) -> [Option<f64>; N] {
+    // Each side has as many calls in a round as it needs.
+    let mut timed = sides.map(|side| {
+        let mut calls = 1;
+        while side(calls).is_some_and(|time| time < ROUND) {
+            calls *= 2;
+        }
+        (side, calls, None)
+    });
     for _ in 0..ROUNDS {
-        best.0 = best.0.min(round(calls, &mut of_proved, restore, &proved));
-        best.1 = best
-            .1
-            .min(round(calls, &mut of_baseline, restore, baseline));
+        for (side, calls, best) in &mut timed {
+            let time = side(*calls).map(|time| time.as_secs_f64() * 1e6 / *calls as f64);
+            *best = time.map(|time| best.map_or(time, |best: f64| best.min(time)));
+        }
     }
-    let micros = |time: Duration| time.as_secs_f64() * 1e6 / calls as f64;
-    let (proved, baseline) = (micros(best.0), micros(best.1));
-    let ratio = proved / baseline;
-    println!("{columns} {baseline:>10.2} {proved:>10.2} {ratio:>6.2}");
+    timed.map(|(_, _, best)| best)
 }
 
 /// The time of so many calls. Where they write what they read, that is put back before each,

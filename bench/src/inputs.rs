@@ -1,8 +1,7 @@
 //! What is timed: frames of 255 by 255 and the named elements.
 
-/// Both sides of every frame, and the bytes of a row.
+/// Both sides of every frame.
 pub const SIDE: u32 = 255;
-const STRIDE: usize = 32;
 
 pub const ELEMENTS: [(&str, u32); 5] = [
     ("SQUARE", 473536),
@@ -30,10 +29,20 @@ pub fn images() -> [(&'static str, Vec<u8>); 5] {
     ]
 }
 
+/// A sheet of so many rows and columns, all ink.
+pub fn full(side: u32) -> Vec<u8> {
+    square(side, |_, _| true)
+}
+
 fn image(test: impl Fn(usize, usize) -> bool) -> Vec<u8> {
-    let mut image = vec![0; STRIDE * SIDE as usize];
-    for (y, row) in image.chunks_exact_mut(STRIDE).enumerate() {
-        for x in (0..SIDE as usize).filter(|&x| test(x, y)) {
+    square(SIDE, test)
+}
+
+fn square(side: u32, test: impl Fn(usize, usize) -> bool) -> Vec<u8> {
+    let stride = side.div_ceil(8) as usize;
+    let mut image = vec![0; stride * side as usize];
+    for (y, row) in image.chunks_exact_mut(stride).enumerate() {
+        for x in (0..side as usize).filter(|&x| test(x, y)) {
             row[x / 8] |= 0x80 >> (x % 8);
         }
     }

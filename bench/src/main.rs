@@ -2,6 +2,11 @@
 //! arguments select the lines that have all of them.
 
 mod compare;
+mod growth;
+// Which of its functions are called depends on what the linked library has.
+#[allow(dead_code)]
+#[cfg_attr(not(leptonica), path = "leptonica_absent.rs")]
+mod leptonica;
 mod proved;
 
 use bench::baseline;
@@ -12,7 +17,7 @@ use compare::{compare, heading, Lent};
 const FOLDS: [u32; 4] = [1, 8, 40, 255];
 
 fn main() {
-    heading();
+    heading(&leptonica::note());
     for (input, image) in images() {
         for (name, element) in ELEMENTS {
             erode_and_open([input, name], element, &image);
@@ -40,6 +45,7 @@ fn main() {
     for (input, image) in images() {
         thin(input, &image);
     }
+    growth::tables();
 }
 
 /// What most calls are lent: an image and work. Work, and what is only written, hold anything.
@@ -57,12 +63,14 @@ fn erode_and_open([input, name]: [&str; 2], element: u32, image: &[u8]) {
     for n in FOLDS {
         compare(["erode", input, name, &n.to_string()], &lent, false,
             |l| baseline::erode(SIDE, SIDE, element, n, &l.image, &mut l.out, &mut l.work),
-            |l| proved::erode(SIDE, SIDE, element, n, &l.image, &mut l.out, &mut l.work));
+            |l| proved::erode(SIDE, SIDE, element, n, &l.image, &mut l.out, &mut l.work),
+            || leptonica::erode_or_open(false, element, n, image));
     }
     for n in FOLDS {
         compare(["open", input, name, &n.to_string()], &lent, false,
             |l| baseline::open(SIDE, SIDE, element, n, &l.image, &mut l.out, &mut l.work),
-            |l| proved::open(SIDE, SIDE, element, n, &l.image, &mut l.out, &mut l.work));
+            |l| proved::open(SIDE, SIDE, element, n, &l.image, &mut l.out, &mut l.work),
+            || leptonica::erode_or_open(true, element, n, image));
     }
 }
 
@@ -82,7 +90,8 @@ fn decompose([input, name]: [&str; 2], element: u32, image: &[u8]) {
     let lent = Lent { labels: vec![0xa5; (SIDE * SIDE) as usize], ..lent(image) };
     compare(["decompose", input, name, ""], &lent, false,
         |l| Ok(baseline::decompose(SIDE, SIDE, element, &l.image, &mut l.labels, &mut l.work)?.points),
-        |l| proved::decompose(SIDE, SIDE, element, &l.image, &mut l.labels, &mut l.work));
+        |l| proved::decompose(SIDE, SIDE, element, &l.image, &mut l.labels, &mut l.work),
+        || leptonica::decompose(element, image));
 }
 
 #[cfg(feature = "reconstruct")]
@@ -93,7 +102,8 @@ fn reconstruct([input, name]: [&str; 2], element: u32, image: &[u8]) {
     for cut in CUTS {
         compare(["reconstruct", input, name, &cut.to_string()], &lent, false,
             |l| baseline::reconstruct(SIDE, SIDE, element, cut, &l.labels, &mut l.image, &mut l.work),
-            |l| proved::reconstruct(SIDE, SIDE, element, cut, &l.labels, &mut l.image, &mut l.work));
+            |l| proved::reconstruct(SIDE, SIDE, element, cut, &l.labels, &mut l.image, &mut l.work),
+            || leptonica::reconstruct(element, cut, &lent.labels));
     }
 }
 
@@ -104,13 +114,21 @@ fn minimise([input, name]: [&str; 2], element: u32, image: &[u8]) {
     let lent = Lent { counters: vec![0xa5; labels.len()], labels, ..lent(image) };
     compare(["minimise", input, name, ""], &lent, true,
         |l| baseline::minimise(SIDE, SIDE, element, &mut l.labels, &mut l.work, &mut l.counters),
-        |l| proved::minimise(SIDE, SIDE, element, &mut l.labels, &mut l.work, &mut l.counters));
+        |l| proved::minimise(SIDE, SIDE, element, &mut l.labels, &mut l.work, &mut l.counters),
+        || None);
 }
 
 #[cfg(feature = "thin")]
 #[rustfmt::skip]
 fn thin(input: &str, image: &[u8]) {
-    compare(["thin", input, "", ""], &lent(image), true,
-        |l| Ok(baseline::thin(SIDE, SIDE, &mut l.image, &mut l.work)?.passes),
-        |l| proved::thin(SIDE, SIDE, &mut l.image, &mut l.work));
+    let timed = |name: &str, other: fn(&[u8]) -> Option<compare::Other>| {
+        compare([name, input, "", ""], &lent(image), true,
+            |l| Ok(baseline::thin(SIDE, SIDE, &mut l.image, &mut l.work)?.passes),
+            |l| proved::thin(SIDE, SIDE, &mut l.image, &mut l.work),
+            || other(image));
+    };
+    timed("thin", leptonica::thin);
+    if cfg!(leptonica) {
+        timed("own thin", leptonica::own_thin);
+    }
 }

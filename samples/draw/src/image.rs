@@ -31,8 +31,21 @@ impl Image {
         self.bytes[y * stride + x / 8] << (x % 8) & 0x80 != 0
     }
 
+    pub fn width(&self) -> usize {
+        self.width as usize
+    }
+
+    pub fn height(&self) -> usize {
+        self.height as usize
+    }
+
+    /// The packed rows.
+    pub fn bytes(&self) -> &[u8] {
+        &self.bytes
+    }
+
     /// An image of packed rows, its padding bits cleared.
-    fn packed(width: u32, height: u32, bytes: &[u8]) -> Result<Image, String> {
+    pub fn packed(width: u32, height: u32, bytes: &[u8]) -> Result<Image, String> {
         let side = |side: u32| match u8::try_from(side) {
             Ok(0) => Err("a side is 0".to_string()),
             Ok(side) => Ok(side),

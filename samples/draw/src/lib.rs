@@ -3,6 +3,9 @@
 mod digits;
 mod image;
 mod noise;
+mod outline;
+mod outside;
+pub mod picture;
 mod ticket;
 
 pub use image::Image;

@@ -2,10 +2,15 @@
 //! its arguments and lent buffers, and `run` says what must come of it.
 
 mod damage;
+mod refused;
+mod settled;
 mod sound;
 
 pub use damage::{Damage, DAMAGES};
-pub use sound::{cut_or_n, element, image, labels, mask, side};
+pub use refused::{accepted, damaged, Damaged};
+pub use settled::{settled, Settled};
+pub use sound::{cut_or_n, element, element_of, image, image_of, labels, labels_of, mask, side};
+pub use sound::{ImageKind, LabelsKind, IMAGE_KINDS, LABELS_KINDS};
 
 use crate::element::ORIGIN;
 use crate::frame::Frame;
@@ -115,7 +120,35 @@ pub struct Parts<'a> {
     pub counters: Option<&'a mut Vec<u16>>,
 }
 
+/// The operations, in the order of `Call`.
+pub const OPERATIONS: [&str; 7] = [
+    "erode",
+    "open",
+    "decompose",
+    "reconstruct",
+    "minimise",
+    "hit_or_miss",
+    "thin",
+];
+
 impl Call {
+    /// The place of the operation in `OPERATIONS`.
+    pub fn operation(&self) -> usize {
+        match self {
+            Call::Erode { .. } => 0,
+            Call::Open { .. } => 1,
+            Call::Decompose { .. } => 2,
+            Call::Reconstruct { .. } => 3,
+            Call::Minimise { .. } => 4,
+            Call::HitOrMiss { .. } => 5,
+            Call::Thin { .. } => 6,
+        }
+    }
+
+    pub fn name(&self) -> &'static str {
+        OPERATIONS[self.operation()]
+    }
+
     pub fn parts(&mut self) -> Parts<'_> {
         let none = |w, h| Parts {
             w,
@@ -163,71 +196,40 @@ impl Call {
 /// and cuts too large in any case. What is only written, and the work, hold anything.
 pub fn call(seed: u64) -> Call {
     let rng = &mut Rng::new(seed);
-    let mut call = sound_call(rng);
+    let (w, h, operation) = (side(rng), side(rng), rng.below(OPERATIONS.len()));
+    let mut call = sound_call(rng, operation, w, h);
     for _ in 0..rng.pick(&[0, 0, 0, 0, 1, 1, 2]) {
         damage(rng, &mut call);
     }
     call
 }
 
-fn sound_call(rng: &mut Rng) -> Call {
-    let (w, h) = (side(rng), side(rng));
+/// A call of an operation on a frame, with lengths, padding, element and mask that are sound.
+pub fn sound_call(rng: &mut Rng, operation: usize, w: u32, h: u32) -> Call {
     let frame = Frame::new(w, h).expect("sides from 1 to 255");
     let element = element(rng);
     let image = image(rng, w, h);
-    let skeleton = skeleton::decompose(&frame.unpack(&image), element);
-    let labels = labels(rng, w, h, element);
+    let labels = match operation {
+        0 | 1 => skeleton::decompose(&frame.unpack(&image), element),
+        3 | 4 => labels(rng, w, h, element),
+        _ => rng.bytes(frame.pixels()),
+    };
     let written = rng.bytes(image.len());
     let spare = rng.pick(&[0, 0, 1, 9]);
     let work = rng.bytes(3 * image.len() + spare);
-    match rng.below(7) {
-        operation @ (0 | 1) => {
-            let (n, out) = (cut_or_n(rng, &skeleton), written);
-            #[rustfmt::skip]
-            let call = match operation {
-                0 => Call::Erode { w, h, element, n, image, out, work },
-                _ => Call::Open { w, h, element, n, image, out, work },
-            };
-            call
-        }
-        2 => Call::Decompose {
-            w,
-            h,
-            element,
-            image,
-            labels: rng.bytes(frame.pixels()),
-            work,
-        },
-        3 => Call::Reconstruct {
-            w,
-            h,
-            element,
-            cut: cut_or_n(rng, &labels),
-            labels,
-            image: written,
-            work,
-        },
-        4 => Call::Minimise {
-            w,
-            h,
-            element,
-            labels,
-            work,
-            counters: (0..frame.pixels()).map(|_| rng.number() as u16).collect(),
-        },
-        5 => {
-            let (fg, bg) = mask(rng);
-            Call::HitOrMiss {
-                w,
-                h,
-                fg,
-                bg,
-                image,
-                out: written,
-            }
-        }
+    let (n, (fg, bg)) = (cut_or_n(rng, &labels), mask(rng));
+    let counters = (0..frame.pixels()).map(|_| rng.number() as u16).collect();
+    #[rustfmt::skip]
+    let call = match operation {
+        0 => Call::Erode { w, h, element, n, image, out: written, work },
+        1 => Call::Open { w, h, element, n, image, out: written, work },
+        2 => Call::Decompose { w, h, element, image, labels, work },
+        3 => Call::Reconstruct { w, h, element, cut: n, labels, image: written, work },
+        4 => Call::Minimise { w, h, element, labels, work, counters },
+        5 => Call::HitOrMiss { w, h, fg, bg, image, out: written },
         _ => Call::Thin { w, h, image, work },
-    }
+    };
+    call
 }
 
 /// The standard input of a seed for the program: sound, or damaged in one or two places.

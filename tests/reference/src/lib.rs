@@ -4,6 +4,7 @@
 //! and every lent byte afterwards.
 
 pub mod cases;
+pub mod drawn;
 mod element;
 mod frame;
 mod refusal;

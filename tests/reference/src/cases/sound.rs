@@ -5,6 +5,7 @@ use crate::element::{folds, ORIGIN};
 use crate::frame::{Frame, Set};
 use crate::rng::Rng;
 use crate::{skeleton, GOLAY_L, LEFT, PLUS, RIGHT, ROUND, SQUARE};
+use std::ops::Range;
 
 /// A side: 1 to 40 and 248 to 255, small ones more often.
 pub fn side(rng: &mut Rng) -> u32 {
@@ -25,6 +26,11 @@ pub fn element(rng: &mut Rng) -> u32 {
     let bits = rng.pick(&[0..25, 0..25, 12..25, 0..13]);
     let largest = rng.pick(&[2, 4, bits.len()]);
     let points = rng.between(2, largest) as u32;
+    element_of(rng, points, bits)
+}
+
+/// An element of so many points, on these bits. They have the origin's and are enough.
+pub fn element_of(rng: &mut Rng, points: u32, bits: Range<usize>) -> u32 {
     let mut element = ORIGIN;
     while element.count_ones() < points {
         element |= 1 << rng.between(bits.start, bits.end - 1);
@@ -46,23 +52,55 @@ const DIGITS: [&[u8; 15]; 10] = [
     b"111101111001111",
 ];
 
-/// A packed image of one of many kinds.
-pub fn image(rng: &mut Rng, w: u32, h: u32) -> Vec<u8> {
-    let frame = Frame::new(w, h).expect("sides from 1 to 255");
-    frame.pack(&foreground(rng, frame))
+/// The kinds of images.
+#[derive(Clone, Copy, Debug, PartialEq, Eq, PartialOrd, Ord)]
+pub enum ImageKind {
+    Blank,
+    Full,
+    Sparse,
+    Half,
+    Dense,
+    Stripes,
+    /// Digits that touch one or more edges.
+    Digits,
+    /// A few filled boxes.
+    Blocks,
 }
 
-fn foreground(rng: &mut Rng, frame: Frame) -> Set {
+pub const IMAGE_KINDS: [ImageKind; 8] = [
+    ImageKind::Blank,
+    ImageKind::Full,
+    ImageKind::Sparse,
+    ImageKind::Half,
+    ImageKind::Dense,
+    ImageKind::Stripes,
+    ImageKind::Digits,
+    ImageKind::Blocks,
+];
+
+/// A packed image of any kind.
+pub fn image(rng: &mut Rng, w: u32, h: u32) -> Vec<u8> {
+    let kind = rng.pick(&IMAGE_KINDS);
+    image_of(rng, kind, w, h)
+}
+
+/// A packed image of this kind.
+pub fn image_of(rng: &mut Rng, kind: ImageKind, w: u32, h: u32) -> Vec<u8> {
+    let frame = Frame::new(w, h).expect("sides from 1 to 255");
+    frame.pack(&foreground(rng, kind, frame))
+}
+
+fn foreground(rng: &mut Rng, kind: ImageKind, frame: Frame) -> Set {
     let blank = frame.collect(|_, _| false);
-    match rng.below(9) {
-        0 => blank,
-        1 => frame.collect(|_, _| true),
-        2 => noise(rng, frame, 2),  // sparse
-        3 => noise(rng, frame, 15), // dense
-        4 => noise(rng, frame, 8),
-        5 => stripes(rng, frame),
-        6 | 7 => digits(rng, blank),
-        _ => blocks(rng, blank),
+    match kind {
+        ImageKind::Blank => blank,
+        ImageKind::Full => frame.collect(|_, _| true),
+        ImageKind::Sparse => noise(rng, frame, 2),
+        ImageKind::Half => noise(rng, frame, 8),
+        ImageKind::Dense => noise(rng, frame, 15),
+        ImageKind::Stripes => stripes(rng, frame),
+        ImageKind::Digits => digits(rng, blank),
+        ImageKind::Blocks => blocks(rng, blank),
     }
 }
 
@@ -124,18 +162,54 @@ fn blocks(rng: &mut Rng, mut set: Set) -> Set {
     set
 }
 
-/// Labels: from an image, minimal, wild but accepted, wild by one size, or any bytes.
+/// The kinds of labels.
+#[derive(Clone, Copy, Debug, PartialEq, Eq, PartialOrd, Ord)]
+pub enum LabelsKind {
+    /// From an image.
+    Skeleton,
+    /// The same, minimal ("shortened").
+    Minimal,
+    /// From no image, but accepted.
+    Wild,
+    /// The same, but for one point that is too large by one size.
+    Beyond,
+    /// Any bytes.
+    Any,
+}
+
+pub const LABELS_KINDS: [LabelsKind; 5] = [
+    LabelsKind::Skeleton,
+    LabelsKind::Minimal,
+    LabelsKind::Wild,
+    LabelsKind::Beyond,
+    LabelsKind::Any,
+];
+
+/// Labels of any kind, those that are mostly accepted more often.
 pub fn labels(rng: &mut Rng, w: u32, h: u32, element: u32) -> Vec<u8> {
+    let kind = match rng.below(8) {
+        0..=2 => LabelsKind::Skeleton,
+        3 => LabelsKind::Minimal,
+        4..=5 => LabelsKind::Wild,
+        6 => LabelsKind::Beyond,
+        _ => LabelsKind::Any,
+    };
+    labels_of(rng, kind, w, h, element)
+}
+
+/// Labels of this kind.
+pub fn labels_of(rng: &mut Rng, kind: LabelsKind, w: u32, h: u32, element: u32) -> Vec<u8> {
     let frame = Frame::new(w, h).expect("sides from 1 to 255");
-    match rng.below(8) {
-        0..=2 => skeleton::decompose(&foreground(rng, frame), element),
-        3 => {
-            let labels = skeleton::decompose(&foreground(rng, frame), element);
-            skeleton::minimise(frame, element, &labels)
-        }
-        4..=5 => wild(rng, frame, element, false),
-        6 => wild(rng, frame, element, true),
-        _ => {
+    let mut skeleton = || {
+        let kind = rng.pick(&IMAGE_KINDS);
+        skeleton::decompose(&foreground(rng, kind, frame), element)
+    };
+    match kind {
+        LabelsKind::Skeleton => skeleton(),
+        LabelsKind::Minimal => skeleton::minimise(frame, element, &skeleton()),
+        LabelsKind::Wild => wild(rng, frame, element, false),
+        LabelsKind::Beyond => wild(rng, frame, element, true),
+        LabelsKind::Any => {
             let holes = rng.pick(&[1, 2, 8]);
             let label = |rng: &mut Rng| rng.number() as u8 * rng.one_in(holes) as u8;
             (0..frame.pixels()).map(|_| label(rng)).collect()

@@ -1,20 +1,8 @@
 //! The generated calls reach what they are meant to reach.
 
-use reference::cases::{call, input, run, Call};
+use reference::cases::{call, input, run};
 use reference::{program, Answer};
 use std::collections::{BTreeMap, BTreeSet};
-
-fn name(call: &Call) -> &'static str {
-    match call {
-        Call::Erode { .. } => "erode",
-        Call::Open { .. } => "open",
-        Call::Decompose { .. } => "decompose",
-        Call::Reconstruct { .. } => "reconstruct",
-        Call::Minimise { .. } => "minimise",
-        Call::HitOrMiss { .. } => "hit_or_miss",
-        Call::Thin { .. } => "thin",
-    }
-}
 
 /// The row of a refusal, 0 for a success.
 fn row(answer: &Answer) -> u8 {
@@ -29,7 +17,7 @@ fn generated_calls_meet_every_row_of_every_operation() {
     let mut met: BTreeMap<&str, BTreeSet<u8>> = BTreeMap::new();
     for seed in 0..6000 {
         let call = call(seed);
-        met.entry(name(&call))
+        met.entry(call.name())
             .or_default()
             .insert(row(&run(&call).0));
     }

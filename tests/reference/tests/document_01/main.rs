@@ -3,7 +3,6 @@
 
 mod calls;
 mod cases_a_to_m;
-mod drawn;
 mod formula;
 mod generated;
 mod lent_bytes;

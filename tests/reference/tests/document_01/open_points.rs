@@ -1,8 +1,8 @@
 //! Points that 01 leaves open or that its sources state wrongly, each as a fact.
 
-use crate::drawn::{draw, draw_labels, full, image, labels};
+use crate::calls;
 use crate::plain::{self, Points};
-use crate::{calls, drawn};
+use reference::drawn::{draw, draw_labels, full, image, labels};
 use reference::Answer::*;
 use reference::{RIGHT, SQUARE};
 
@@ -111,7 +111,7 @@ fn cover_counts_of_a_large_frame() {
     assert_eq!(answer, Minimal(1));
     assert_eq!(minimal[127 * 255 + 127], 128);
     let (answer, image) = calls::reconstruct(w, h, SQUARE, 0, &minimal);
-    assert_eq!((answer, image), (Area(65025), drawn::full(w, h)));
+    assert_eq!((answer, image), (Area(65025), full(w, h)));
 }
 
 /// Labels that come from no image are minimised by the same walk.

@@ -1,7 +1,7 @@
 //! What 01 says of every image, labels and list of sieves, on seeded random ones.
 
 use crate::calls;
-use crate::drawn::full;
+use reference::drawn::full;
 use reference::rng::Rng;
 use reference::Answer::*;
 use reference::{cases, LEFT, PLUS, RIGHT, ROUND, SQUARE};

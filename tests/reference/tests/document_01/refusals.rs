@@ -1,40 +1,13 @@
 //! The table of refusals: each row alone, at its boundary, and every pair of rows that can
 //! occur in one call.
 
-use crate::drawn::{full, image, labels};
 use crate::{calls, plain};
-use reference::cases::{call, run, Call, DAMAGES};
+use reference::cases::{accepted, call, damaged, run, Call, DAMAGES};
+use reference::drawn::{full, image, labels};
 use reference::rng::Rng;
 use reference::Answer::*;
 use reference::{RIGHT, SQUARE};
-
-/// One accepted call of each operation on a 3 by 3 frame, with the rows that can refuse it.
-fn sound_calls() -> Vec<(Call, Vec<u8>)> {
-    let (w, h, element) = (3, 3, SQUARE);
-    let (plane, work) = (full(3, 3), vec![0xA5; 9]);
-    let image = || plane.clone();
-    let out = || vec![0x5A; 3];
-    let work = || work.clone();
-    let labels = || labels("000/020/000");
-    #[rustfmt::skip]
-    let calls = vec![
-        (Call::Erode { w, h, element, n: 1, image: image(), out: out(), work: work() },
-            vec![1, 2, 3, 4, 7]),
-        (Call::Open { w, h, element, n: 1, image: image(), out: out(), work: work() },
-            vec![1, 2, 3, 4, 7]),
-        (Call::Decompose { w, h, element, image: image(), labels: vec![0xA5; 9], work: work() },
-            vec![1, 2, 3, 4]),
-        (Call::Reconstruct { w, h, element, cut: 1, labels: labels(), image: out(), work: work() },
-            vec![1, 2, 3, 5, 7]),
-        (Call::Minimise { w, h, element, labels: labels(), work: work(), counters: vec![9; 9] },
-            vec![1, 2, 3, 5]),
-        (Call::HitOrMiss { w, h, fg: 464, bg: 7, image: image(), out: out() },
-            vec![1, 3, 4, 6]),
-        (Call::Thin { w, h, image: image(), work: work() },
-            vec![1, 3, 4]),
-    ];
-    calls
-}
+use std::collections::BTreeSet;
 
 /// The call is refused with this number, and no lent byte changes.
 fn assert_refused(call: &Call, row: u8) {
@@ -43,63 +16,33 @@ fn assert_refused(call: &Call, row: u8) {
     assert_eq!(&after, call);
 }
 
+/// Each row alone, each two rows and all rows of each operation: the lowest is answered.
 #[test]
-fn each_row_alone() {
-    for (call, rows) in sound_calls() {
+fn the_lowest_row_is_answered() {
+    let mut tried = BTreeSet::new();
+    for damaged in damaged() {
+        assert_refused(&damaged.call, damaged.row());
+        tried.insert((damaged.call.name(), damaged.rows));
+    }
+    let mut expected = BTreeSet::new();
+    for (call, rows) in accepted() {
         assert!(!matches!(run(&call).0, Refused(_)), "{call:?}");
-        let mut seen = vec![];
-        for (row, edit) in DAMAGES {
-            let mut damaged = call.clone();
-            if edit(&mut damaged.parts()) {
-                assert_refused(&damaged, *row);
-                seen.push(*row);
-            } else {
-                assert_eq!(damaged, call);
-            }
+        for low in &rows {
+            expected.insert((call.name(), vec![*low]));
+            let higher = rows.iter().filter(|high| *high > low);
+            expected.extend(higher.map(|high| (call.name(), vec![*low, *high])));
         }
-        seen.dedup();
-        assert_eq!(seen, rows, "the rows that can refuse the call");
+        expected.insert((call.name(), rows));
     }
+    assert_eq!(tried, expected, "the rows that can refuse each operation");
 }
 
 #[test]
-fn each_pair_of_rows_answers_the_lower() {
-    for (call, rows) in sound_calls() {
-        let mut pairs = 0;
-        for (low, first) in DAMAGES {
-            for (high, second) in DAMAGES.iter().filter(|(high, _)| high > low) {
-                let mut damaged = call.clone();
-                // The higher row first: it may ask for sides and bytes that are sound.
-                let both = second(&mut damaged.parts()) && first(&mut damaged.parts());
-                if both {
-                    // A cut above 255 keeps no point, so that row 5 cannot apply with row 7.
-                    let row = if (*low, *high) == (5, 7) { 7 } else { *low };
-                    assert_refused(&damaged, row);
-                    pairs |= 1 << (low * 8 + high);
-                }
-            }
-        }
-        let expected = rows.iter().flat_map(|low| {
-            let higher = rows.iter().filter(move |high| *high > low);
-            higher.map(move |high| 1u64 << (low * 8 + high))
-        });
-        assert_eq!(pairs, expected.sum::<u64>(), "every pair of rows was tried");
-    }
-}
-
-#[test]
-fn all_rows_at_once() {
-    for (mut call, rows) in sound_calls() {
-        for row in rows.iter().rev() {
-            let mut edits = DAMAGES.iter().filter(|(of, _)| of == row);
-            assert!(edits.any(|(_, edit)| edit(&mut call.parts())));
-            // With the cut of row 7, row 5 does not apply.
-            let row = if *row == 5 && rows.contains(&7) {
-                7
-            } else {
-                *row
-            };
-            assert_refused(&call, row);
+fn a_damage_that_a_call_cannot_have_changes_nothing() {
+    for (call, _) in accepted() {
+        for (_, edit) in DAMAGES {
+            let mut same = call.clone();
+            assert!(edit(&mut same.parts()) || same == call);
         }
     }
 }
@@ -189,9 +132,9 @@ fn any_numbers_and_any_lengths() {
         let any = rng.number() as u32 >> rng.below(32);
         rng.pick(&[0, 1, 2, 8, 9, 255, 256, SQUARE, 16, u32::MAX, any])
     };
-    let mut accepted = 0;
+    let (sound, mut successes) = (accepted(), 0);
     for _ in 0..60_000 {
-        let (mut call, _) = rng.pick(&sound_calls());
+        let (mut call, _) = rng.pick(&sound);
         let p = call.parts();
         let numbers = [p.w, p.h].into_iter().chain(p.element).chain(p.cut_or_n);
         for argument in numbers.chain(p.mask.into_iter().flat_map(|(fg, bg)| [fg, bg])) {
@@ -211,18 +154,18 @@ fn any_numbers_and_any_lengths() {
         match row_of(&call) {
             0 => {
                 assert!(!matches!(run(&call).0, Refused(_)), "{call:?}");
-                accepted += 1;
+                successes += 1;
             }
             row => assert_refused(&call, row),
         }
     }
-    assert!(accepted > 5000);
+    assert!(successes > 5000);
 }
 
 #[test]
 fn row_1_sides() {
     for side in [0, 256, 257, 511, 512, 65536, 65537, 1 << 31, u32::MAX] {
-        for (call, _) in sound_calls() {
+        for (call, _) in accepted() {
             for (w, h) in [(side, 3), (3, side), (side, side)] {
                 let mut call = call.clone();
                 (*call.parts().w, *call.parts().h) = (w, h);

@@ -2,8 +2,8 @@
 //! gives, and is not what the operations give.
 
 use crate::calls;
-use crate::drawn::{draw, draw_labels, full, image};
 use crate::plain::{self, Mask, Points, HOUSE};
+use reference::drawn::{draw, draw_labels, full, image};
 use reference::Answer::Area;
 use reference::{LEFT, RIGHT, SQUARE};
 

@@ -1,0 +1,261 @@
+//! Calls of chosen kinds: every kind of image and of labels, every named element, every cut
+//! that matters, every mask of the house set.
+
+use programs::replay::Replay;
+use reference::cases::{element, image_of, labels_of, mask, side, Call};
+use reference::cases::{LabelsKind, IMAGE_KINDS, LABELS_KINDS};
+use reference::rng::Rng;
+use reference::Answer::{self, Area, Refused};
+use reference::{GOLAY_L, LEFT, PLUS, RIGHT, ROUND, SQUARE};
+use std::collections::BTreeMap;
+
+const NAMED: [u32; 5] = [SQUARE, PLUS, ROUND, RIGHT, LEFT];
+
+/// What a block of calls shares; buffers that are lent hold anything.
+struct Block {
+    rng: Rng,
+    w: u32,
+    h: u32,
+    element: u32,
+    name: String,
+    calls: Vec<(String, Call)>,
+    /// What each call was chosen for.
+    kinds: Vec<&'static str>,
+}
+
+impl Block {
+    /// Sides and an element, one of the named ones or any.
+    fn new(name: String, seed: u64) -> Block {
+        let mut rng = Rng::new(seed);
+        let (w, h) = (side(&mut rng), side(&mut rng));
+        let any = element(&mut rng);
+        Block {
+            w,
+            h,
+            element: *NAMED.get(seed as usize % 6).unwrap_or(&any),
+            rng,
+            name: format!("{name}, seed {seed}"),
+            calls: vec![],
+            kinds: vec![],
+        }
+    }
+
+    fn add(&mut self, kind: &'static str, call: Call) {
+        self.calls.push((self.name.clone(), call));
+        self.kinds.push(kind);
+    }
+
+    fn image(&mut self) -> Vec<u8> {
+        let plane = self.w.div_ceil(8) * self.h;
+        self.rng.bytes(plane as usize)
+    }
+
+    /// Some bytes more than 3P at times.
+    fn work(&mut self) -> Vec<u8> {
+        let plane = self.w.div_ceil(8) * self.h;
+        let spare = self.rng.below(3) as u32;
+        self.rng.bytes((3 * plane + spare) as usize)
+    }
+
+    fn labels(&mut self) -> Vec<u8> {
+        self.rng.bytes((self.w * self.h) as usize)
+    }
+
+    /// Erosion and opening by n.
+    #[rustfmt::skip]
+    fn erode_and_open(&mut self, kind: &'static str, n: u32, image: &[u8]) {
+        let (w, h, element, image) = (self.w, self.h, self.element, image.to_vec());
+        let (out, work) = (self.image(), self.work());
+        self.add(kind, Call::Erode { w, h, element, n, image: image.clone(), out, work });
+        let (out, work) = (self.image(), self.work());
+        self.add(kind, Call::Open { w, h, element, n, image, out, work });
+    }
+
+    #[rustfmt::skip]
+    fn decompose(&mut self, kind: &'static str, image: &[u8]) {
+        let (w, h, element, image) = (self.w, self.h, self.element, image.to_vec());
+        let (labels, work) = (self.labels(), self.work());
+        self.add(kind, Call::Decompose { w, h, element, image, labels, work });
+    }
+
+    #[rustfmt::skip]
+    fn reconstruct(&mut self, kind: &'static str, cut: u32, labels: &[u8]) {
+        let (w, h, element, labels) = (self.w, self.h, self.element, labels.to_vec());
+        let (image, work) = (self.image(), self.work());
+        self.add(kind, Call::Reconstruct { w, h, element, cut, labels, image, work });
+    }
+
+    #[rustfmt::skip]
+    fn minimise(&mut self, kind: &'static str, labels: &[u8]) {
+        let (w, h, element, labels) = (self.w, self.h, self.element, labels.to_vec());
+        let (work, counters) = (self.work(), vec![0xA5A5; labels.len()]);
+        self.add(kind, Call::Minimise { w, h, element, labels, work, counters });
+    }
+
+    /// Hit-or-miss by the house set and two other masks; thinning.
+    #[rustfmt::skip]
+    fn hit_or_miss_and_thin(&mut self, image: &[u8]) {
+        let (w, h) = (self.w, self.h);
+        let others = [mask(&mut self.rng), mask(&mut self.rng)];
+        for (fg, bg) in GOLAY_L.into_iter().chain(others) {
+            let (image, out) = (image.to_vec(), self.image());
+            self.add("", Call::HitOrMiss { w, h, fg, bg, image, out });
+        }
+        let (image, work) = (image.to_vec(), self.work());
+        self.add("", Call::Thin { w, h, image, work });
+    }
+}
+
+/// The cuts that matter for these labels, by name.
+fn cuts(labels: &[u8]) -> [(&'static str, u32); 7] {
+    let label = labels.iter().copied().max().unwrap_or(0);
+    let largest = label.saturating_sub(1) as u32;
+    [
+        ("0", 0),
+        ("1", 1),
+        ("largest", largest),
+        ("largest + 1", largest + 1),
+        ("255", 255),
+        ("256", 256),
+        ("4294967295", u32::MAX),
+    ]
+}
+
+/// Which edges an image touches: left, right, top, bottom.
+fn edges(w: u32, image: &[u8]) -> [bool; 4] {
+    let rows: Vec<&[u8]> = image.chunks(w.div_ceil(8) as usize).collect();
+    let last = w as usize - 1;
+    let any = |row: &[u8]| row.iter().any(|&byte| byte > 0);
+    [
+        rows.iter().any(|row| row[0] & 0x80 != 0),
+        rows.iter()
+            .any(|row| row[last / 8] << (last % 8) & 0x80 != 0),
+        any(rows[0]),
+        any(rows[rows.len() - 1]),
+    ]
+}
+
+/// Calls by operation, what they were chosen for, and how they were answered.
+type Met = BTreeMap<(&'static str, &'static str, &'static str), u32>;
+
+/// Makes the calls of a block and counts them.
+fn agree(replay: &mut Replay, met: &mut Met, block: &Block) {
+    let answers = replay.all_agree(&block.calls);
+    for (((_, call), kind), answer) in block.calls.iter().zip(&block.kinds).zip(answers) {
+        let answered = match answer {
+            Refused(_) => "refused",
+            Area(0) | Answer::Blank | Answer::Minimal(0) => "blank",
+            _ => "ink",
+        };
+        *met.entry((call.name(), kind, answered)).or_default() += 1;
+    }
+}
+
+fn reached(met: &Met, operation: &'static str, kind: &'static str, answered: &'static str) {
+    let times = met.get(&(operation, kind, answered)).copied().unwrap_or(0);
+    assert!(times >= 5, "{operation}, {kind}, {answered}: {times} times");
+}
+
+/// Every kind of image and every named element: all operations, all cuts, the labels of the
+/// image and its minimal labels among them.
+#[test]
+fn every_kind_of_image() {
+    let mut replay = Replay::start();
+    let mut met = Met::new();
+    for kind in IMAGE_KINDS {
+        let mut touched = [0; 4];
+        for seed in 0..240 {
+            let mut block = Block::new(format!("{kind:?}"), seed);
+            let (w, h) = (block.w, block.h);
+            let image = image_of(&mut block.rng, kind, w, h);
+            for (count, edge) in touched.iter_mut().zip(edges(w, &image)) {
+                *count += edge as u32;
+            }
+            let labels = skeleton(&block, &image);
+            let minimal = minimal(&block, &labels);
+            for (cut, n) in cuts(&labels) {
+                block.erode_and_open(cut, n, &image);
+                block.reconstruct(cut, n, &labels);
+                block.reconstruct(cut, n, &minimal);
+            }
+            block.decompose("", &image);
+            block.minimise("", &labels);
+            block.minimise("", &minimal);
+            block.hit_or_miss_and_thin(&image);
+            agree(&mut replay, &mut met, &block);
+        }
+        let least = if kind == IMAGE_KINDS[0] { 0 } else { 10 };
+        assert!(
+            touched.iter().all(|&edge| edge >= least),
+            "{kind:?}: {touched:?}"
+        );
+    }
+    for operation in ["erode", "open", "reconstruct"] {
+        for cut in ["0", "1", "largest"] {
+            reached(&met, operation, cut, "ink");
+        }
+        for cut in ["1", "largest + 1", "255"] {
+            reached(&met, operation, cut, "blank");
+        }
+        for cut in ["256", "4294967295"] {
+            reached(&met, operation, cut, "refused");
+        }
+    }
+    for operation in ["decompose", "minimise", "hit_or_miss"] {
+        reached(&met, operation, "", "ink");
+        reached(&met, operation, "", "blank");
+    }
+    reached(&met, "thin", "", "ink");
+    replay.end();
+}
+
+/// Labels of every kind at every cut.
+#[test]
+fn every_kind_of_labels() {
+    let mut replay = Replay::start();
+    for kind in LABELS_KINDS {
+        let mut met = Met::new();
+        for seed in 1000..1300 {
+            let mut block = Block::new(format!("{kind:?}"), seed);
+            let (w, h, element) = (block.w, block.h, block.element);
+            let labels = labels_of(&mut block.rng, kind, w, h, element);
+            for (cut, n) in cuts(&labels) {
+                block.reconstruct(cut, n, &labels);
+            }
+            block.minimise("", &labels);
+            agree(&mut replay, &mut met, &block);
+        }
+        let refused = matches!(kind, LabelsKind::Beyond | LabelsKind::Any);
+        let answered = if refused { "refused" } else { "ink" };
+        for cut in ["0", "largest"] {
+            reached(&met, "reconstruct", cut, answered);
+        }
+        reached(&met, "minimise", "", answered);
+        for cut in ["largest + 1", "255"] {
+            reached(&met, "reconstruct", cut, "blank");
+        }
+        for cut in ["256", "4294967295"] {
+            reached(&met, "reconstruct", cut, "refused");
+        }
+    }
+    replay.end();
+}
+
+/// The labels of an image, by the second program.
+fn skeleton(block: &Block, image: &[u8]) -> Vec<u8> {
+    let (w, h) = (block.w, block.h);
+    let mut labels = vec![0; (w * h) as usize];
+    let mut work = vec![0; 3 * image.len()];
+    reference::decompose(w, h, block.element, image, &mut labels, &mut work);
+    labels
+}
+
+/// The minimal labels, by the second program.
+fn minimal(block: &Block, labels: &[u8]) -> Vec<u8> {
+    let (w, h) = (block.w, block.h);
+    let mut minimal = labels.to_vec();
+    let mut work = vec![0; (3 * w.div_ceil(8) * h) as usize];
+    let mut counters = vec![0; labels.len()];
+    reference::minimise(w, h, block.element, &mut minimal, &mut work, &mut counters);
+    minimal
+}

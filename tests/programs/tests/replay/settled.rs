@@ -1,0 +1,46 @@
+//! The cases A to M of 01, from the table that the second program is held to.
+
+use programs::format::{Message, Reply};
+use programs::replay::Replay;
+use reference::cases::{settled, Call};
+use reference::drawn::{draw, image};
+use std::collections::BTreeSet;
+
+/// Each call of a case replies what the document says.
+#[test]
+fn cases_a_to_m() {
+    let mut replay = Replay::start();
+    let mut cases = BTreeSet::new();
+    for settled in settled() {
+        let reply = replay.call(&Message::from(&settled.call));
+        let wanted = Reply::new(&settled.answer, &settled.after);
+        assert_eq!(reply, wanted, "case {}: {:?}", settled.case, settled.call);
+        cases.insert(settled.case);
+    }
+    assert_eq!(cases, ('A'..='M').collect());
+    replay.end();
+}
+
+/// Case J's last sentence in steps: the step of mask 1, then of mask 2, on what is left.
+#[test]
+fn case_j_in_steps() {
+    let mut replay = Replay::start();
+    let (w, h, mut block) = image("111/111/111");
+    for (fg, bg) in [(464, 7), (152, 38)] {
+        let hit = Call::HitOrMiss {
+            w,
+            h,
+            fg,
+            bg,
+            image: block.clone(),
+            out: vec![0xA5; 3],
+        };
+        let hits = replay.call(&Message::from(&hit)).y;
+        block
+            .iter_mut()
+            .zip(&hits)
+            .for_each(|(byte, hit)| *byte &= !hit);
+    }
+    assert_eq!(draw(w, &block), "101/111/111");
+    replay.end();
+}

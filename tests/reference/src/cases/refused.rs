@@ -1,0 +1,76 @@
+//! Every kind of damaged argument in every operation: alone, in pairs, all rows at once.
+
+use super::{Call, Damage, DAMAGES};
+use crate::drawn::{full, labels};
+use crate::SQUARE;
+
+/// One accepted call of each operation on a 3 by 3 frame, with the rows that can refuse it.
+pub fn accepted() -> Vec<(Call, Vec<u8>)> {
+    let (w, h, element) = (3, 3, SQUARE);
+    let image = || full(3, 3);
+    let out = || vec![0x5A; 3];
+    let work = || vec![0xA5; 9];
+    let labels = || labels("000/020/000");
+    #[rustfmt::skip]
+    let calls = vec![
+        (Call::Erode { w, h, element, n: 1, image: image(), out: out(), work: work() },
+            vec![1, 2, 3, 4, 7]),
+        (Call::Open { w, h, element, n: 1, image: image(), out: out(), work: work() },
+            vec![1, 2, 3, 4, 7]),
+        (Call::Decompose { w, h, element, image: image(), labels: vec![0xA5; 9], work: work() },
+            vec![1, 2, 3, 4]),
+        (Call::Reconstruct { w, h, element, cut: 1, labels: labels(), image: out(), work: work() },
+            vec![1, 2, 3, 5, 7]),
+        (Call::Minimise { w, h, element, labels: labels(), work: work(), counters: vec![9; 9] },
+            vec![1, 2, 3, 5]),
+        (Call::HitOrMiss { w, h, fg: 464, bg: 7, image: image(), out: out() },
+            vec![1, 3, 4, 6]),
+        (Call::Thin { w, h, image: image(), work: work() },
+            vec![1, 3, 4]),
+    ];
+    calls
+}
+
+/// A call with damaged arguments, and the rows that they aim at, in order.
+#[derive(Clone)]
+pub struct Damaged {
+    pub call: Call,
+    pub rows: Vec<u8>,
+}
+
+impl Damaged {
+    /// The row that is answered: the lowest. A cut above 255 keeps no point, so that row 5
+    /// cannot apply with row 7.
+    pub fn row(&self) -> u8 {
+        let applies = |row: &&u8| **row != 5 || !self.rows.contains(&7);
+        *self.rows.iter().find(applies).expect("a row")
+    }
+
+    /// The call with one damage more; none if it has no such argument.
+    fn with(mut self, &(row, edit): &Damage) -> Option<Damaged> {
+        self.rows.insert(0, row);
+        edit(&mut self.call.parts()).then_some(self)
+    }
+}
+
+/// Each kind of damage alone in each accepted call that has such an argument, then each two
+/// kinds that aim at different rows, then all rows at once. The higher row goes first: it may
+/// ask for sides and bytes that are sound.
+pub fn damaged() -> Vec<Damaged> {
+    let mut all = vec![];
+    for (call, rows) in accepted() {
+        let sound = Damaged { call, rows: vec![] };
+        let alone = DAMAGES.iter().flat_map(|kind| sound.clone().with(kind));
+        for high in alone {
+            let lower = DAMAGES.iter().filter(|(row, _)| *row < high.rows[0]);
+            all.extend(lower.flat_map(|low| high.clone().with(low)));
+            all.push(high);
+        }
+        let each = |damaged: Damaged, row: &u8| {
+            let mut kinds = DAMAGES.iter().filter(|(of, _)| of == row);
+            kinds.find_map(|kind| damaged.clone().with(kind))
+        };
+        all.extend(rows.iter().rev().try_fold(sound, each));
+    }
+    all
+}
