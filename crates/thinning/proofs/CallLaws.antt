@@ -11,20 +11,14 @@ use Rattle.morphology.specs.Element.{isMask}
 use Rattle.morphology.specs.Image.{isClean, planeBytes}
 use Rattle.morphology.specs.Operations.{hitRows, thinRows}
 use Rattle.morphology.specs.Refusals.{Row, firstRefusal, notPlane, row3, shortWork, unless}
-use Rattle.morphology.proofs.RefusalLaws.{T-of-not, first-out, fits-plane, or-in-false, or-out-false, unless-refused}
+use Rattle.morphology.proofs.RefusalLaws.{T-of-not, first-out, fits-plane, or-out-false, unless-refused}
 use Rattle.planes.specs.Frames.{Frame}
 use Rattle.planes.proofs.PlaneLaws.{frame-bytes}
 use Rattle.planes.proofs.SideLaws.{sides-frame, sides-of}
 use Rattle.steps.specs.Steps.{Ready}
 use Rattle.steps.proofs.StepLaws.{sheet-small}
 
-pub or-miss : (a b : Bool) {t : Bool} → a ≡ false → b ≡ t → (a || b) ≡ t
-or-miss a b p q = ap (λ (x : Bool). x || b) p ∙ q
-
 -- row 3 of two lengths
-pub lengths-two : (a b : Bool) → a ≡ false → b ≡ false → row3 (a ∷ b ∷ []) .1 ≡ false
-lengths-two a b p q = or-in-false a (b || false) p (or-in-false b false q refl)
-
 two-out : (a b : Bool) → row3 (a ∷ b ∷ []) .1 ≡ false → (a ≡ false) × (b ≡ false)
 two-out a b e = let p = or-out-false a (b || false) e in (p .0, or-out-false b false (p .1) .0)
 

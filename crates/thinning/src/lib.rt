@@ -1,3 +1,4 @@
+use planes::refusals;
 ghost use mathlib.Core.Path.{_≡_};
 ghost use mathlib.Core.Bool.{false};
 ghost use mathlib.Core.List.{[], _∷_};
@@ -109,22 +110,13 @@ fn bad_mask(fg: u32, bg: u32) -> bool
 fn hit_refusal(w: u32, h: u32, fg: u32, bg: u32, image: &[u8], out: &[u8]) -> u8
     ensures { λ r. ⌜ r ≡ firstRefusal (hitRows w h (fg, bg) (now (image .entry)) (now (out .entry))) ⌝ }
 {
-    if planes::refusals::bad_sides(w, h) {
+    if refusals::bad_sides(w, h) {
         return 1;
     }
-    if planes::refusals::not_plane(w, h, image) {
-        return 3;
-    }
-    if planes::refusals::not_plane(w, h, out) {
-        return 3;
-    }
-    if planes::refusals::bad_padding(w, h, image) {
-        return 4;
-    }
-    if bad_mask(fg, bg) {
-        return 6;
-    }
-    0
+    let out_wrong = refusals::not_plane(w, h, out);
+    let lengths = refusals::image_rows(w, h, image, out_wrong, false);
+    let mask = refusals::row(6, bad_mask(fg, bg));
+    refusals::first(lengths, mask)
 }
 
 // Hit-or-miss by one mask: the points of image that it hits, into out.
@@ -199,19 +191,11 @@ fn thin_passes(w: usize, h: usize, r: usize, p: usize, image: &mut [u8], work: &
 fn thin_refusal(w: u32, h: u32, image: &[u8], work: &[u8]) -> u8
     ensures { λ r. ⌜ r ≡ firstRefusal (thinRows w h (now (image .entry)) (now (work .entry))) ⌝ }
 {
-    if planes::refusals::bad_sides(w, h) {
+    if refusals::bad_sides(w, h) {
         return 1;
     }
-    if planes::refusals::not_plane(w, h, image) {
-        return 3;
-    }
-    if planes::refusals::short_work(w, h, work) {
-        return 3;
-    }
-    if planes::refusals::bad_padding(w, h, image) {
-        return 4;
-    }
-    0
+    let short = refusals::short_work(w, h, work);
+    refusals::image_rows(w, h, image, false, short)
 }
 
 // Thinning by the house set: the image in place.
