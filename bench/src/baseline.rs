@@ -10,7 +10,7 @@ mod thin;
 pub use minimise::minimise;
 pub use planes::{dilate_plane, erode_plane};
 pub use skeleton::{decompose, erode, open, reconstruct, Skeleton};
-pub use thin::{thin, Thinned};
+pub use thin::{thin, Thinned, GOLAY_L};
 
 #[cfg(test)]
 mod tests;

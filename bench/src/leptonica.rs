@@ -4,6 +4,7 @@
 //! operation.
 
 use crate::compare::Other;
+use bench::baseline::GOLAY_L;
 use bench::inputs::SIDE;
 use std::cell::Cell;
 use std::ffi::{c_char, CStr};
@@ -324,18 +325,6 @@ pub fn reconstruct(element: u32, cut: u32, labels: &[u8]) -> Option<Other> {
         })),
     })
 }
-
-/// The masks of the house set, in its order.
-const GOLAY_L: [(u32, u32); 8] = [
-    (464, 7),
-    (152, 38),
-    (89, 292),
-    (26, 416),
-    (23, 448),
-    (50, 200),
-    (308, 73),
-    (176, 11),
-];
 
 /// Thinning by the house set with Leptonica's hit-or-miss.
 pub fn thin(image: &[u8]) -> Option<Other> {

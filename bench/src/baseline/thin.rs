@@ -4,7 +4,7 @@ use super::frame::{area, Frame, Offsets};
 use super::planes::hit_or_miss_plane;
 
 /// The house set: Golay L on the square grid in its eight turns, as fg and bg.
-const GOLAY_L: [(u32, u32); 8] = [
+pub const GOLAY_L: [(u32, u32); 8] = [
     (464, 7),
     (152, 38),
     (89, 292),

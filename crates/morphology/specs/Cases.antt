@@ -148,6 +148,8 @@ cases =
     ∷ rebuiltNot 1 1 SQUARE (2 ∷ []) 0 5
     ∷ rebuiltNot 1 1 SQUARE (2 ∷ []) 1 5
     ∷ rebuilt 1 1 SQUARE (2 ∷ []) 2 0 (0 ∷ [])
+    -- not of 01's table: the smallest size goes first
+    ∷ shortened 3 1 RIGHT (221 ∷ []) 2 (220 ∷ [])
     ∷ []
 
 -- each call's outcome is the one written beside it

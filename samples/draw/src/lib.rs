@@ -1,16 +1,14 @@
-//! Drawn tickets as sample images, and the two formats that they are kept in.
+//! Drawn tickets as sample images.
 
 mod digits;
-mod image;
 mod noise;
 mod outline;
 mod outside;
 pub mod picture;
 mod ticket;
 
-pub use image::Image;
+pub use convert::Image;
 
-use std::io::{stdin, stdout, Read, Write};
 use ticket::ticket;
 
 /// The 3 by 3 block, the element of every sample.
@@ -26,19 +24,6 @@ pub fn samples() -> Vec<(&'static str, Image)> {
         ("sheet-0417", ticket(255, &["0417", "2593", "0868"], 3)),
         ("sheet-417", ticket(255, &["417", "2593", "0868"], 4)),
     ]
-}
-
-/// Standard input through a conversion to standard output; or a message and status 1.
-pub fn filter(name: &str, convert: impl Fn(&[u8]) -> Result<Vec<u8>, String>) {
-    let mut input = Vec::new();
-    let read = stdin().read_to_end(&mut input).map_err(|e| e.to_string());
-    let written = read
-        .and_then(|_| convert(&input))
-        .and_then(|output| stdout().write_all(&output).map_err(|e| e.to_string()));
-    if let Err(message) = written {
-        eprintln!("{name}: {message}");
-        std::process::exit(1);
-    }
 }
 
 #[cfg(test)]

@@ -2,8 +2,8 @@
 //! lines rise, and strokes are thin at the left edge. Its wheels are a little out of line.
 
 use crate::digits::{Point, DIGITS};
-use crate::image::Image;
 use crate::noise;
+use crate::Image;
 
 const WIDTH: u8 = 255;
 /// A digit's box and the way from one digit to the next, in pixels.

@@ -125,24 +125,9 @@ fn number(rest: &mut &[u8]) -> Result<u32, String> {
 #[cfg(test)]
 mod tests {
     use super::*;
-    use crate::{samples, SQUARE};
 
     fn pbm(header: &str, bytes: &[u8]) -> Result<Image, String> {
         Image::from_pbm(&[header.as_bytes(), bytes].concat())
-    }
-
-    #[test]
-    fn block_is_the_printed_example() {
-        let scan = samples()[0].1.to_scan(SQUARE);
-        assert_eq!(scan, [3, 3, 0xc0, 0x39, 7, 0, 0xe0, 0xe0, 0xe0]);
-    }
-
-    #[test]
-    fn round_trip() {
-        for (_, image) in samples() {
-            assert_eq!(Image::from_pbm(&image.to_pbm()), Ok(image.clone()));
-            assert_eq!(Image::from_scan(&image.to_scan(7)), Ok(image));
-        }
     }
 
     #[test]
@@ -150,7 +135,7 @@ mod tests {
         for width in 1..=255 {
             let image = Image::collect(width, 3, |x, y| (x * 5 + y * 3) % 7 < 3);
             assert_eq!(Image::from_pbm(&image.to_pbm()), Ok(image.clone()));
-            assert_eq!(Image::from_scan(&image.to_scan(SQUARE)), Ok(image));
+            assert_eq!(Image::from_scan(&image.to_scan(473536)), Ok(image));
         }
     }
 

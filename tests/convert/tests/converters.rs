@@ -1,7 +1,7 @@
 //! The two converters as programs.
 
-use draw::{samples, SQUARE};
 use std::io::Write;
+use std::path::Path;
 use std::process::{Command, Output, Stdio};
 
 fn run(program: &str, arguments: &[&str], input: &[u8]) -> Output {
@@ -33,11 +33,24 @@ fn message(output: Output) -> String {
 }
 
 #[test]
-fn there_and_back() {
-    for (_, image) in samples() {
-        let scan = pbm2scan(&[&SQUARE.to_string()], &image.to_pbm()).stdout;
-        assert_eq!(scan, image.to_scan(SQUARE));
-        assert_eq!(scan2pbm(&scan).stdout, image.to_pbm());
+fn the_samples_there_and_back() {
+    let samples = Path::new(env!("CARGO_MANIFEST_DIR")).join("../../samples");
+    let files = std::fs::read_dir(samples).expect("the samples");
+    let files = files.map(|file| file.expect("a file").path());
+    let scans: Vec<_> = files
+        .filter(|file| file.extension() == Some("scan".as_ref()))
+        .collect();
+    assert!(scans.len() >= 5);
+    for file in scans {
+        let scan = std::fs::read(&file).expect("a scan");
+        let pbm = std::fs::read(file.with_extension("pbm")).expect("its PBM");
+        assert_eq!(
+            pbm2scan(&["473536"], &pbm).stdout,
+            scan,
+            "{}",
+            file.display()
+        );
+        assert_eq!(scan2pbm(&scan).stdout, pbm, "{}", file.display());
     }
 }
 
@@ -45,7 +58,7 @@ fn there_and_back() {
 fn padding_is_cleared() {
     let scan = pbm2scan(&["473536"], b"P4\n3 3\n\xff\xff\xff");
     assert!(scan.status.success());
-    assert_eq!(scan.stdout, samples()[0].1.to_scan(SQUARE));
+    assert_eq!(scan.stdout, [3, 3, 0xc0, 0x39, 7, 0, 0xe0, 0xe0, 0xe0]);
 }
 
 #[test]

@@ -1,7 +1,7 @@
 //! A P4 PBM on standard input becomes the skeleton program's input on standard output, for
 //! the element whose number is the argument. Padding bits are cleared.
 
-use draw::{filter, Image};
+use convert::{filter, Image};
 
 fn main() {
     let element = std::env::args().nth(1).and_then(|word| word.parse().ok());
