@@ -26,7 +26,7 @@ use Rattle.morphology.proofs.LabelLaws.{in-places, labelAt-at, of-places}
 use Rattle.morphology.proofs.RefusalLaws.{false-of}
 use Rattle.morphology.proofs.SkeletonLaws.{any-agree}
 use Rattle.morphology.proofs.TestLaws.{T-ext, and-in, and-l, and-r, any-in, any-out}
-use Rattle.planes.specs.Measures.{measure}
+use Rattle.refusals.specs.Measures.{measure}
 use Rattle.raster.proofs.RowLaws.{row-in}
 use Rattle.labels.specs.Wild.{Limit, Limits, Room, over, roomAt, tooLarge}
 

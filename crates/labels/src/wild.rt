@@ -99,10 +99,10 @@ fn has_wild(w: usize, h: usize, element: u32, cut: u32, labels: &[u8]) -> bool
     requires { ⌜ (w ≤ 1024) × (length (now labels) ≡ w * h) × T (isElement element) ⌝ }
     ensures { λ r. ⌜ r ≡ isWild w h (offsets element) cut (now (labels .entry)) ⌝ }
 {
-    let left = planes::extent::extent(element, true, false);
-    let right = planes::extent::extent(element, true, true);
-    let up = planes::extent::extent(element, false, false);
-    let down = planes::extent::extent(element, false, true);
+    let left = refusals::extent::extent(element, true, false);
+    let right = refusals::extent::extent(element, true, true);
+    let up = refusals::extent::extent(element, false, false);
+    let down = refusals::extent::extent(element, false, true);
     let mut limits = [0u8; 1024];
     column_limits(w, left, right, cut, &mut limits);
     let mut y: usize = 0;

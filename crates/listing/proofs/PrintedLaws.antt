@@ -24,7 +24,7 @@ use Rattle.morphology.proofs.LabelLaws.{length-raster}
 use Rattle.morphology.proofs.RefusalLaws.{first-out, or-hit}
 use Rattle.morphology.proofs.SkeletonLaws.{label-le}
 use Rattle.morphology.proofs.TestLaws.{and-l, and-r}
-use Rattle.planes.proofs.SideLaws.{sides-of}
+use Rattle.refusals.proofs.SideLaws.{sides-of}
 use Rattle.numbers.specs.Numbers.{numberAt}
 use Rattle.listing.specs.Printed.{answerText, enough, longest, noSize, outcomeText, printed, refusalText, taken}
 use Rattle.listing.specs.Text.{decimal}

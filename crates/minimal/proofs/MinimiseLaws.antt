@@ -21,7 +21,7 @@ use Rattle.morphology.proofs.ElementLaws.{element}
 use Rattle.morphology.proofs.LabelLaws.{labelAt-place}
 use Rattle.morphology.proofs.ReconstructLaws.{kept-on}
 use Rattle.morphology.proofs.RefusalLaws.{T-of-not, first-out, fits-plane, three-out, unless-in, unless-refused}
-use Rattle.planes.proofs.SideLaws.{sides-of}
+use Rattle.refusals.proofs.SideLaws.{sides-of}
 use Rattle.steps.specs.Steps.{Sheet}
 use Rattle.steps.proofs.StepLaws.{sheet-bytes}
 use Rattle.minimal.specs.Minimised.{Passed, Shortened}

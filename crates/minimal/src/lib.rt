@@ -2,7 +2,6 @@ pub mod covers;
 pub mod sizes;
 pub mod walks;
 
-use planes::refusals;
 ghost use mathlib.Core.Path.{_≡_};
 ghost use mathlib.Core.List.{[], _∷_};
 ghost use Rattle.morphology.specs.Answers.{outcome};

@@ -124,9 +124,14 @@ lonely r e (suc n) f = go (lonely r e n (λ i h t. f i (omega arith) t)) (bit e 
         (omega arith, λ h. absurd (omega arith))
     go r false p = (r .0, λ h. r .1 (omega arith))
 
+-- an element has its origin
+pub element-bit : (e : ℕ) → T (isElement e) → T (bit e 12)
+unfolding isElement
+element-bit e t = and-l (bit e 12) (leb 2 (length (offsets e))) (and-r (ltb e (2 ^ 25)) (bit e 12 && leb 2 (length (offsets e))) t)
+
 element-origin : (e : ℕ) → T (isElement e) → List·Memᴰ origin (offsets e)
-unfolding isElement offsets offset origin
-element-origin e t = in-below 2 e 25 12 (lit< tt) (and-l (bit e 12) (leb 2 (length (offsetsBelow 2 e 25))) (and-r (ltb e (2 ^ 25)) (bit e 12 && leb 2 (length (offsetsBelow 2 e 25))) t))
+unfolding offsets offset origin
+element-origin e t = in-below 2 e 25 12 (lit< tt) (element-bit e t)
 
 apart : (i : ℕ) → i < 25 → T (eqb i 12 || not (samePoint (offset 2 i) origin))
 unfolding samePoint sameInteger offset origin

@@ -3,5 +3,3 @@ pub mod ScatterLaws
 pub mod CentreLaws
 pub mod SetLaws
 pub mod PlaneLaws
-pub mod SideLaws
-pub mod ExtentLaws

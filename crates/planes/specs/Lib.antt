@@ -1,3 +1,2 @@
 pub mod Frames
 pub mod Neighbours
-pub mod Measures

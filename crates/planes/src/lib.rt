@@ -1,6 +1,3 @@
-pub mod extent;
-pub mod refusals;
-
 ghost use mathlib.Core.Path.{_≡_};
 ghost use mathlib.Core.Bool.{not, _&&_, cond, false};
 ghost use Prim.Native.Nat.{_+_, _*_, _<_, _≤_};

@@ -25,7 +25,7 @@ use Rattle.morphology.proofs.MorphologyLaws.{_⊆_, erode-out}
 use Rattle.morphology.proofs.PointLaws.{unit}
 use Rattle.morphology.proofs.TestLaws.{and-l}
 use Rattle.planes.proofs.PlaneLaws.{frame-bytes, frame-row, origin-in}
-use Rattle.planes.proofs.SideLaws.{element-bit}
+use Rattle.morphology.proofs.ElementLaws.{element-bit}
 use Rattle.raster.specs.Rows.{overwrite}
 use Rattle.raster.proofs.PartLaws.{PartIs, part-back, part-overwrite}
 use Rattle.steps.proofs.StepLaws.{first-start, zeros-out}

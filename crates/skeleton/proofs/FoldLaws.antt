@@ -14,7 +14,7 @@ use Rattle.morphology.specs.Operations.{foldRows, writes}
 use Rattle.morphology.specs.Point.{Point}
 use Rattle.morphology.specs.Refusals.{Row, firstRefusal, notPlane, shortWork, unless}
 use Rattle.morphology.proofs.RefusalLaws.{T-of-not, first-out, fits-plane, three-out, unless-in, unless-refused}
-use Rattle.planes.proofs.SideLaws.{sides-frame, sides-of}
+use Rattle.refusals.proofs.SideLaws.{sides-frame, sides-of}
 use Rattle.steps.specs.Steps.{Ready, Wrote}
 
 module _ (W H e n : ℕ) (image out work : List ℕ) where

@@ -19,7 +19,7 @@ use Rattle.morphology.specs.Skeleton.{skeletonFunction, skeletonLabels, skeleto
 use Rattle.morphology.proofs.CountLaws.{count-le}
 use Rattle.morphology.proofs.DecomposeLaws.{eroded-on, function-turn, labels-none, points-turn, turns-lt, turns-outcome, turnsAnswer}
 use Rattle.morphology.proofs.RefusalLaws.{T-of-not, first-out, fits-plane, three-out, unless-in}
-use Rattle.planes.proofs.SideLaws.{sides-frame, sides-of}
+use Rattle.refusals.proofs.SideLaws.{sides-frame, sides-of}
 use Rattle.morphology.specs.Answers.{Answer, outcome}
 use Rattle.morphology.specs.Operations.{cleared, decomposeRows, decomposed, labelled}
 use Rattle.morphology.specs.Refusals.{firstRefusal, notPlaces, notPlane, shortWork}

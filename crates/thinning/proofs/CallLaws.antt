@@ -14,7 +14,7 @@ use Rattle.morphology.specs.Refusals.{Row, firstRefusal, notPlane, row3, shortW
 use Rattle.morphology.proofs.RefusalLaws.{T-of-not, first-out, fits-plane, or-out-false, unless-refused}
 use Rattle.planes.specs.Frames.{Frame}
 use Rattle.planes.proofs.PlaneLaws.{frame-bytes}
-use Rattle.planes.proofs.SideLaws.{sides-frame, sides-of}
+use Rattle.refusals.proofs.SideLaws.{sides-frame, sides-of}
 use Rattle.steps.specs.Steps.{Ready}
 use Rattle.steps.proofs.StepLaws.{sheet-small}
 

@@ -1,7 +1,7 @@
 -- `minimal::not_counters` meets its contract.
 use native.Mathlib.Omega.{arith}
 use borrow.Author.Needs.{needs}
-use Rattle.planes.proofs.SideLaws.{product-lt}
+use Rattle.refusals.proofs.SideLaws.{product-lt}
 use Rattle.minimal.proofs.not_counters.Statement.{statement}
 use Rattle.minimal.proofs.not_counters.Tie as tie
 

@@ -1,7 +1,7 @@
 -- `skeleton::turn` meets its contract.
 use borrow.Author.Needs.{needs}
 use denote.Ref.{now}
-use Rattle.planes.proofs.SideLaws.{element-bit}
+use Rattle.morphology.proofs.ElementLaws.{element-bit}
 use Rattle.skeleton.proofs.TurnLaws.{turn-done}
 use Rattle.skeleton.proofs.turn.Statement.{statement}
 use Rattle.skeleton.proofs.turn.Tie as tie

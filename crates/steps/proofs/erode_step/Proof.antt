@@ -2,7 +2,7 @@
 use native.Mathlib.Omega.{arith}
 use borrow.Author.Needs.{needs}
 use denote.Ref.{now}
-use Rattle.planes.proofs.SideLaws.{element-bit}
+use Rattle.morphology.proofs.ElementLaws.{element-bit}
 use Rattle.steps.proofs.StepLaws.{sheet-bytes, step-done}
 use Rattle.steps.proofs.erode_step.Statement.{statement}
 use Rattle.steps.proofs.erode_step.Tie as tie
