@@ -1,13 +1,11 @@
 -- A reply's bytes.
 use mathlib.Core.List.{List, [], _++_, _∷_}
-use mathlib.Core.Path.{_∙_, _≡_, ap, ap₂, sym}
+use mathlib.Core.Path.{_∙_, _≡_, ap, ap₂}
 use Prim.Native.Nat.{ℕ}
 use lib.ListN.{getD}
-use Rattle.morphology.specs.Answers.{Answer, Outcome, outcome}
 use Rattle.numbers.specs.Numbers.{counterBytes, countersOf, fourBytes, numberAt}
 use Rattle.calls.specs.Called.{called}
 use Rattle.calls.specs.Format.{outcomeBytes, replied, replyBytes}
-use Rattle.calls.specs.Replies.{answerOf, replyOf}
 use Rattle.calls.specs.declared.Reply.{Reply}
 use Rattle.calls.proofs.CallLaws.{Owed}
 

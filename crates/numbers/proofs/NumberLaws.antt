@@ -2,8 +2,7 @@
 use mathlib.Core.Bool.{Bool, cond}
 use mathlib.Core.List.{List, [], _∷_}
 use mathlib.Core.Path.{_∙_, _≡_, ap, ap₂, refl, subst, sym}
-use Prim.Native.Nat.{_%_, _*_, _+_, _/_, _<_, suc, zero, ℕ}
-use native.Mathlib.Nat.{not-suc-le-zero}
+use Prim.Native.Nat.{_%_, _*_, _+_, _/_, _<_, suc, ℕ}
 use native.Mathlib.Omega.{arith}
 use borrow.Author.Tests.{eq-eqb, ne-eqb}
 use lib.Dec.{eqb}

@@ -8,7 +8,7 @@ ghost use Rattle.morphology.specs.Image.{imageSet, pack, isClean, clip};
 ghost use Rattle.morphology.specs.Morphology.{erode, dilate, opening};
 ghost use Rattle.raster.specs.Rows.{rowBit, readBit, overwrite, RowJoined};
 ghost use Rattle.planes.specs.Frames.{Frame};
-ghost use Rattle.planes.specs.Neighbours.{nearBit, isNear, Margins, NearRow, turned, startByte, fiveOf, elementAsks, neighbours, source, sourceBit, PlaneIs, PlaneJoined, Begun, RowsTo};
+ghost use Rattle.planes.specs.Neighbours.{isNear, Margins, NearRow, turned, startByte, fiveOf, elementAsks, neighbours, source, sourceBit, PlaneIs, PlaneJoined, Begun, RowsTo};
 
 // Whether a plane of h rows has a row yk - 2.
 fn is_near(h: usize, yk: usize) -> bool

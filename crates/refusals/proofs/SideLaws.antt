@@ -7,7 +7,7 @@ use native.Mathlib.Nat.{mul-le-mul-right}
 use native.Mathlib.Omega.{arith}
 use borrow.Author.Tests.{eq-eqb, le-leb, le-ltb, lt-leb, lt-ltb, ne-eqb}
 use lib.Count.{ones}
-use lib.Dec.{T, leb, leb→le, ltb}
+use lib.Dec.{leb, leb→le, ltb}
 use lib.ListN.{length}
 use Rattle.morphology.specs.Element.{bit, isElement, offsets}
 use Rattle.morphology.specs.Image.{stride}

@@ -4,7 +4,6 @@ ghost use mathlib.Core.Path.{_≡_};
 ghost use mathlib.Core.Bool.{cond, false};
 ghost use mathlib.Core.List.{[], _∷_};
 ghost use lib.Dec.{eqb};
-ghost use lib.ListN.{length};
 ghost use Rattle.morphology.specs.Image.{planeBytes};
 ghost use Rattle.morphology.specs.Refusals.{isSide, notPlane, notPlaces, shortWork, row1, row2, row3, row4, row7, firstRefusal};
 

@@ -1,10 +1,9 @@
 -- `labels::label_byte` meets its contract.
 use borrow.Author.Needs.{needs}
-use mathlib.Core.Path.{_∙_, sym, ap}
+use mathlib.Core.Path.{_∙_, sym}
 use Prim.Native.Nat.{_+_, _-_}
 use native.Mathlib.Omega.{arith}
 use denote.Ref.{now}
-use lib.Dec.{eqb→eq}
 use Rattle.morphology.specs.Image.{bitOf}
 use Rattle.raster.proofs.ByteLaws.{zero-bit}
 use Rattle.labels.specs.Labelled.{leftAt}

@@ -1,7 +1,7 @@
 -- `labels::label_bytes` meets its contract.
 use Rattle.labels.proofs.label_bytes.Statement.{statement}
 use mathlib.Core.Path.{_∙_, _≡_, subst}
-use Prim.Native.Nat.{_%_, _+_, _-_, _/_, _<_, _≤_, ℕ}
+use Prim.Native.Nat.{_%_, _+_, _-_, _/_, _≤_, ℕ}
 use native.Mathlib.Omega.{arith}
 use denote.Ref.{now}
 use Rattle.labels.specs.Labelled.{RowLabelled, leftAt}

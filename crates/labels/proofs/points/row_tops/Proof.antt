@@ -1,11 +1,11 @@
 -- `labels::points::row_tops` meets its contract.
 use Rattle.labels.proofs.points.row_tops.Statement.{statement}
 use mathlib.Core.Path.{_∙_, _≡_, ap}
-use Prim.Native.Nat.{_*_, _+_, _-_, _<_, _≤_, ℕ}
+use Prim.Native.Nat.{_*_, _+_, _-_, _≤_, ℕ}
 use native.Mathlib.Nat.{le-refl, mul-comm, mul-le-mul-right}
 use native.Mathlib.Omega.{arith}
 use denote.Ref.{now}
-use lib.ListN.{drop, getD, length, take}
+use lib.ListN.{drop, take}
 use Rattle.morphology.specs.Lists.{greatest}
 use Rattle.raster.proofs.LoopLaws.{Mapped, mapped-more, mapped-none}
 use Rattle.raster.proofs.RowLaws.{row-in}

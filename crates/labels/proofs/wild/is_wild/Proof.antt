@@ -1,7 +1,6 @@
 -- `labels::wild::is_wild` meets its contract.
 use Rattle.labels.proofs.wild.is_wild.Statement.{statement}
 use borrow.Author.Needs.{needs}
-use Prim.Native.Nat.{_≤_}
 use native.Mathlib.Omega.{arith}
 use denote.Ref.{now}
 use Rattle.morphology.specs.Element.{offsets}

@@ -1,4 +1,3 @@
--- `listing::text::+put_decimal` meets its contract.
 -- The proof of the cycle of calls {put_decimal}. The measure is the number.
 use mathlib.Core.Path.{sym}
 use Prim.Native.Nat.{ℕ, _<_}
