@@ -1,4 +1,5 @@
 pub mod covers;
+pub mod places;
 pub mod sizes;
 pub mod walks;
 

@@ -1,4 +1,5 @@
 use crate::covers;
+use crate::places;
 ghost use mathlib.Core.Path.{_≡_};
 ghost use mathlib.Core.Bool.{true, cond, not, _&&_};
 ghost use Prim.Native.Nat.{_+_, _*_, _<_, _≤_, _^_, max};
@@ -14,7 +15,7 @@ ghost use Rattle.steps.specs.Steps.{First};
 ghost use Rattle.minimal.specs.Bands.{Banded, inkAt};
 ghost use Rattle.minimal.specs.Covers.{single, counts};
 ghost use Rattle.minimal.specs.Moves.{below, hits, Open, Moved};
-ghost use Rattle.minimal.specs.Sizes.{Shape, Tame, Past, Counting, Begun, Left};
+ghost use Rattle.minimal.specs.Sizes.{Shape, Tame, Counting, Begun, Left};
 
 // Counts up the cover of place i, where it has a point of size n: the plane's pixels moved from a to i.
 fn count_at(
@@ -38,17 +39,6 @@ fn count_at(
     }
 }
 
-// A place past all points of size n: the first, where there is none.
-pub fn end_of(labels: &[u8], n: usize) -> usize
-    requires { ⌜ n < 255 ⌝ }
-    ensures { λ e. ⌜ (e ≤ length (now (labels .entry))) × Past n e (now (labels .entry)) ⌝ }
-{
-    if labels::points::has_label(labels, (n + 1) as u8) {
-        return labels.len();
-    }
-    0
-}
-
 // Counts up the covers of all points of size n, and dilates the plane to the next size.
 fn count_size(
     w: usize,
@@ -68,11 +58,11 @@ fn count_size(
 {
     let above = covers::blank_above(&work[..p], h, r);
     let under = covers::blank_under(&work[..p], h, r, above);
-    let end = end_of(labels, n);
-    let mut i: usize = 0;
-    while i < end {
+    let v = (n + 1) as u8;
+    let mut i = places::next_place(labels, v, 0);
+    while i < labels.len() {
         count_at(w, h, r, above, under, a, n, i, labels, &work[..p], counters);
-        i = i + 1;
+        i = places::next_place(labels, v, i + 1);
     }
     steps::dilate_step(w, h, r, p, element, work);
 }

@@ -1,4 +1,5 @@
 use crate::covers;
+use crate::places;
 use crate::sizes;
 ghost use mathlib.Core.Path.{_≡_};
 ghost use Prim.Native.Nat.{_+_, _*_, _<_, _≤_, _^_};
@@ -60,11 +61,11 @@ fn walk_size(
 {
     let above = covers::blank_above(&work[..p], h, r);
     let under = covers::blank_under(&work[..p], h, r, above);
-    let end = sizes::end_of(&labels[..], n);
-    let mut i: usize = 0;
-    while i < end {
+    let v = (n + 1) as u8;
+    let mut i = places::next_place(&labels[..], v, 0);
+    while i < labels.len() {
         step(w, h, r, above, under, a, n, i, labels, &work[..p], counters);
-        i = i + 1;
+        i = places::next_place(&labels[..], v, i + 1);
     }
     steps::dilate_step(w, h, r, p, element, work);
 }

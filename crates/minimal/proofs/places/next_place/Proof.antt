@@ -1,0 +1,23 @@
+-- `minimal::places::next_place` meets its contract.
+use native.Mathlib.Omega.{arith}
+use borrow.Author.Needs.{needs}
+use denote.Ref.{now}
+use Rattle.minimal.proofs.PlaceLaws.{without-both}
+use Rattle.minimal.proofs.places.next_place.Statement.{statement}
+use Rattle.minimal.proofs.places.next_place.Tie as tie
+
+past-blocks-requires : tie.Need-past-blocks-requires
+past-blocks-requires c κs = search needs
+
+past-places-requires : tie.Need-past-places-requires
+past-places-requires c κs = search needs
+
+returns : tie.Need-returns
+returns c =
+    let a = c .before .before .before .args in
+    let b = c .before .past-blocks .ensures in
+    let e = c .past-places .ensures in
+    (omega (arith, b .0, e .0), e .1, without-both (a .v) (a .from) _ _ (now (a .labels)) (b .2) (e .2))
+
+pub next-place-spec : {M : Type 1} → statement M
+next-place-spec = tie.close (tie.spec past-blocks-requires past-places-requires returns)

@@ -1,0 +1,41 @@
+ghost use Prim.Native.Nat.{_≤_};
+ghost use lib.ListN.{length};
+ghost use Rattle.minimal.specs.Sizes.{Without};
+
+// Passes over blocks of 64 places without label v.
+fn past_blocks(labels: &[u8], v: u8, from: usize) -> usize
+    requires { ⌜ from ≤ length (now labels) ⌝ }
+    ensures { λ i. ⌜ (from ≤ i) × (i ≤ length (now (labels .entry))) × Without v from i (now (labels .entry)) ⌝ }
+{
+    let mut i = from;
+    while labels.len() - i >= 64 {
+        if labels::points::has_label(&labels[i..i + 64], v) {
+            return i;
+        }
+        i = i + 64;
+    }
+    i
+}
+
+// Passes over places without label v, one by one.
+fn past_places(labels: &[u8], v: u8, from: usize) -> usize
+    requires { ⌜ from ≤ length (now labels) ⌝ }
+    ensures { λ i. ⌜ (from ≤ i) × (i ≤ length (now (labels .entry))) × Without v from i (now (labels .entry)) ⌝ }
+{
+    let mut i = from;
+    while i < labels.len() {
+        if labels[i] == v {
+            return i;
+        }
+        i = i + 1;
+    }
+    i
+}
+
+// A place from which on label v is looked for: no place before it has the label.
+pub fn next_place(labels: &[u8], v: u8, from: usize) -> usize
+    requires { ⌜ from ≤ length (now labels) ⌝ }
+    ensures { λ i. ⌜ (from ≤ i) × (i ≤ length (now (labels .entry))) × Without v from i (now (labels .entry)) ⌝ }
+{
+    past_places(labels, v, past_blocks(labels, v, from))
+}
