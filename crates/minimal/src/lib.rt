@@ -1,3 +1,4 @@
+pub mod bands;
 pub mod covers;
 pub mod places;
 pub mod sizes;

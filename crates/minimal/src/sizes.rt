@@ -1,3 +1,5 @@
+use crate::bands;
+use crate::bands::Band;
 use crate::covers;
 use crate::places;
 ghost use mathlib.Core.Path.{_≡_};
@@ -22,8 +24,7 @@ fn count_at(
     w: usize,
     h: usize,
     r: usize,
-    above: usize,
-    under: usize,
+    band: Band,
     a: usize,
     n: usize,
     i: usize,
@@ -31,11 +32,11 @@ fn count_at(
     plane: &[u8],
     counters: &mut [u16],
 )
-    requires { ⌜ Banded w h r above under (now plane) × (i < length (now labels)) × (i < 2 ^ 30) × (n < 2 ^ 30) × (getD (now labels) i 0 ≡ n + 1 → Open true (below (w * h) (inkAt w h (now plane))) i a (now counters)) ⌝ }
+    requires { ⌜ Banded w h r band (now plane) × (i < length (now labels)) × (i < 2 ^ 30) × (n < 2 ^ 30) × (getD (now labels) i 0 ≡ n + 1 → Open true (below (w * h) (inkAt w h (now plane))) i a (now counters)) ⌝ }
     ensures { λ _. ⌜ Moved true (λ x. eqb (getD (now (labels .entry)) i 0) (n + 1) && hits (below (w * h) (inkAt w h (now (plane .entry)))) i a x) (now (counters .entry)) (now (counters .exit)) ⌝ }
 {
     if labels[i] as usize == n + 1 {
-        covers::move_cover(true, plane, w, h, r, above, under, a, i, counters);
+        covers::move_cover(true, plane, w, h, r, band, a, i, counters);
     }
 }
 
@@ -56,12 +57,11 @@ fn count_size(
     ensures counters { λ _. ⌜ Counting w h (offsets element) (now (labels .entry)) (n + 1) 0 (now (counters .exit)) ⌝ }
     ensures work { λ _. ⌜ First w h p (clip w h (dilate (offsets element) (imageSet w h (now (work .entry))))) (now (work .entry)) (now (work .exit)) ⌝ }
 {
-    let above = covers::blank_above(&work[..p], h, r);
-    let under = covers::blank_under(&work[..p], h, r, above);
+    let band = bands::band_of(&work[..p], h, r);
     let v = (n + 1) as u8;
     let mut i = places::next_place(labels, v, 0);
     while i < labels.len() {
-        count_at(w, h, r, above, under, a, n, i, labels, &work[..p], counters);
+        count_at(w, h, r, band, a, n, i, labels, &work[..p], counters);
         i = places::next_place(labels, v, i + 1);
     }
     steps::dilate_step(w, h, r, p, element, work);

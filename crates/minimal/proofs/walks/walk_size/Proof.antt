@@ -18,78 +18,62 @@ use Rattle.minimal.proofs.walks.walk_size.Statement.{statement}
 use Rattle.minimal.proofs.walks.walk_size.Tie as tie
 
 abbrev Inv-loop : tie.InvT-loop
-Inv-loop w h r p element a n labels₀ work counters₀ above under v i₀ labels counters i =
-    (v ≡ n + 1) × (i ≤ length labels₀) × Banded w h r above under (take p work) × (length labels ≡ length labels₀) × (labels ≡ dropSize w h (offsets element) n (upTo i) labels₀) × (counters ≡ counts w h (offsets element) labels)
+Inv-loop w h r p element a n labels₀ work counters₀ band v i₀ labels counters i =
+    (v ≡ n + 1) × (i ≤ length labels₀) × Banded w h r band (take p work) × (length labels ≡ length labels₀) × (labels ≡ dropSize w h (offsets element) n (upTo i) labels₀) × (counters ≡ counts w h (offsets element) labels)
 
 abbrev μ-loop : tie.MeasureT-loop
-μ-loop w h r p element a n labels₀ work counters₀ above under v i₀ labels counters i = length labels₀ - i
+μ-loop w h r p element a n labels₀ work counters₀ band v i₀ labels counters i = length labels₀ - i
 
-slice-reshare-prefix-blank-above : tie.Need-slice-reshare-prefix-blank-above Inv-loop μ-loop
-slice-reshare-prefix-blank-above c = let s = c .before .before .before in omega (arith, s .pre .0 .planes)
+slice-reshare-prefix-band-of : tie.Need-slice-reshare-prefix-band-of Inv-loop μ-loop
+slice-reshare-prefix-band-of c = let s = c .before .before .before in omega (arith, s .pre .0 .planes)
 
-slice-aggregate-blank-above : tie.Need-slice-aggregate-blank-above Inv-loop μ-loop
-slice-aggregate-blank-above c =
+slice-aggregate-band-of : tie.Need-slice-aggregate-band-of Inv-loop μ-loop
+slice-aggregate-band-of c =
     let s = c .before .before .before .before in
     let a = s .args in
     sym (plane-size (a .w) (a .h) (a .r) (a .p) (offsets (a .element)) (a .n) (a .a) (now (a .work)) (s .pre .0))
 
-blank-above-requires : tie.Need-blank-above-requires Inv-loop μ-loop
-blank-above-requires c κs =
+band-of-requires : tie.Need-band-of-requires Inv-loop μ-loop
+band-of-requires c κs =
     let s = c .before .before .before .before in
     let a = s .args in
     plane-rows (a .w) (a .h) (a .r) (a .p) (offsets (a .element)) (a .n) (a .a) (now (a .work)) (s .pre .0)
 
-slice-reshare-prefix-blank-under : tie.Need-slice-reshare-prefix-blank-under Inv-loop μ-loop
-slice-reshare-prefix-blank-under c = let s = c .before .before .before .before .before in omega (arith, s .pre .0 .planes)
-
-slice-aggregate-blank-under : tie.Need-slice-aggregate-blank-under Inv-loop μ-loop
-slice-aggregate-blank-under c =
-    let s = c .before .before .before .before .before .before in
-    let a = s .args in
-    sym (plane-size (a .w) (a .h) (a .r) (a .p) (offsets (a .element)) (a .n) (a .a) (now (a .work)) (s .pre .0))
-
-blank-under-requires : tie.Need-blank-under-requires Inv-loop μ-loop
-blank-under-requires c κs =
-    let s = c .before .before .before .before .before .before in
-    let a = s .args in
-    (plane-rows (a .w) (a .h) (a .r) (a .p) (offsets (a .element)) (a .n) (a .a) (now (a .work)) (s .pre .0), c .before .blank-above .ensures .0)
-
 add-v : tie.Need-add-v Inv-loop μ-loop
-add-v c = omega (arith, c .before .before .before .before .before .before .before .pre .2)
+add-v c = omega (arith, c .before .before .before .before .before .pre .2)
 
 cast-v : tie.Need-cast-v Inv-loop μ-loop
-cast-v c = omega (arith, c .before .before .before .before .before .before .before .pre .2)
+cast-v c = omega (arith, c .before .before .before .before .before .pre .2)
 
 next-place-requires : tie.Need-next-place-requires Inv-loop μ-loop
 next-place-requires c κs = omega arith
 
 loop-holds : tie.Need-loop-holds Inv-loop μ-loop
 loop-holds c =
-    let s = c .before .before .before .before .before .before .before .before .before in
+    let s = c .before .before .before .before .before .before .before in
     let a = s .args in
-    let t = c .before .before .before .before .blank-above .ensures in
-    let b = c .before .before .blank-under .ensures in
+    let b = c .before .before .band-of .ensures in
     let e = c .next-place .ensures in (
       refl,
       e .1,
-      plane-banded (a .w) (a .h) (a .r) (a .p) (offsets (a .element)) (a .n) (a .a) (now (a .work)) (s .pre .0) _ _ (b .0) (t .1) (b .1),
+      plane-banded (a .w) (a .h) (a .r) (a .p) (offsets (a .element)) (a .n) (a .a) (now (a .work)) (s .pre .0) _ b,
       refl,
       size-gap (a .w) (a .h) (offsets (a .element)) (a .n) (now (a .labels)) 0 _ (now (a .labels)) (e .0) (e .2) (size-begin (a .w) (a .h) (offsets (a .element)) (a .n) (now (a .labels))),
       s .pre .3,
     )
 
 slice-reshare-prefix-step : tie.Need-slice-reshare-prefix-step Inv-loop μ-loop
-slice-reshare-prefix-step c = let s = c .before .before .before .before .before .before .before .before .before .before .before .before in omega (arith, s .pre .0 .planes)
+slice-reshare-prefix-step c = let s = c .before .before .before .before .before .before .before .before .before .before in omega (arith, s .pre .0 .planes)
 
 slice-aggregate-step : tie.Need-slice-aggregate-step Inv-loop μ-loop
 slice-aggregate-step c =
-    let s = c .before .before .before .before .before .before .before .before .before .before .before .before .before in
+    let s = c .before .before .before .before .before .before .before .before .before .before .before in
     let a = s .args in
     sym (plane-size (a .w) (a .h) (a .r) (a .p) (offsets (a .element)) (a .n) (a .a) (now (a .work)) (s .pre .0))
 
 step-requires : tie.Need-step-requires Inv-loop μ-loop
 step-requires c κs =
-    let s = c .before .before .before .before .before .before .before .before .before .before .before .before .before .before in
+    let s = c .before .before .before .before .before .before .before .before .before .before .before .before in
     let a = s .args in
     let l = c .before .before .before .before .loop in
     let k = c .before .before .before .loop-test .taken in
@@ -99,11 +83,11 @@ step-requires c κs =
     (l .inv .2, k, omega (arith, h, t .few), omega (arith, s .pre .2), step-within (a .w) (a .h) (a .r) (a .p) (offsets (a .element)) (a .n) (a .a) (now (a .work)) (s .pre .0) (l .labels) u (l .i) h (l .counters) (l .inv .5))
 
 add-next-place : tie.Need-add-next-place Inv-loop μ-loop
-add-next-place c = let s = c .before .before .before .before .before .before .before .before .before .before .before .before .before .before .before .before .before .before .before .before in omega (arith, c .before .before .before .before .before .before .before .before .before .loop-test .taken, c .before .before .before .before .before .before .before .before .before .before .loop .inv .3, s .pre .1 .places, s .pre .1 .few)
+add-next-place c = let s = c .before .before .before .before .before .before .before .before .before .before .before .before .before .before .before .before .before .before in omega (arith, c .before .before .before .before .before .before .before .before .before .loop-test .taken, c .before .before .before .before .before .before .before .before .before .before .loop .inv .3, s .pre .1 .places, s .pre .1 .few)
 
 next-place-requires-2 : tie.Need-next-place-requires-2 Inv-loop μ-loop
 next-place-requires-2 c κs =
-    let s = c .before .before .before .before .before .before .before .before .before .before .before .before .before .before .before .before .before .before .before .before in
+    let s = c .before .before .before .before .before .before .before .before .before .before .before .before .before .before .before .before .before .before in
     let a = s .args in
     let l = c .before .before .before .before .before .before .before .before .before .before .loop in
     let k = c .before .before .before .before .before .before .before .before .before .loop-test .taken in
@@ -118,7 +102,7 @@ loop-less c = omega (arith, c .before .before .before .before .before .before .b
 
 loop-again : tie.Need-loop-again Inv-loop μ-loop
 loop-again c =
-    let s = c .before .before .before .before .before .before .before .before .before .before .before .before .before .before .before .before .before .before .before .before .before in
+    let s = c .before .before .before .before .before .before .before .before .before .before .before .before .before .before .before .before .before .before .before in
     let a = s .args in
     let l = c .before .before .before .before .before .before .before .before .before .before .before .loop in
     let k = c .before .before .before .before .before .before .before .before .before .before .loop-test .taken in
@@ -137,7 +121,7 @@ loop-again c =
     )
 
 dilate-step-requires : tie.Need-dilate-step-requires Inv-loop μ-loop
-dilate-step-requires c κs = let s = c .before .before .before .before .before .before .before .before .before .before .before .before in (s .pre .0 .sheet, s .pre .0 .planes, s .pre .0 .clean)
+dilate-step-requires c κs = let s = c .before .before .before .before .before .before .before .before .before .before in (s .pre .0 .sheet, s .pre .0 .planes, s .pre .0 .clean)
 
 same-length : tie.Need-same-length Inv-loop μ-loop
 same-length c = c .before .before .before .before .before .loop .inv .3
@@ -147,14 +131,14 @@ same-length-2 c = search needs
 
 same-length-3 : tie.Need-same-length-3 Inv-loop μ-loop
 same-length-3 c =
-    let s = c .before .before .before .before .before .before .before .before .before .before .before .before .before .before .before in
+    let s = c .before .before .before .before .before .before .before .before .before .before .before .before .before in
     let a = s .args in
     let l = c .before .before .before .before .before .loop in
     ap length (l .inv .5) ∙ counts-length (a .w) (a .h) (offsets (a .element)) (l .labels) ∙ sym (ap length (s .pre .3) ∙ counts-length (a .w) (a .h) (offsets (a .element)) (now (a .labels)))
 
 returns : tie.Need-returns Inv-loop μ-loop
 returns c =
-    let s = c .before .before .before .before .before .before .before .before .before .before .before .before .before .before .before in
+    let s = c .before .before .before .before .before .before .before .before .before .before .before .before .before in
     let a = s .args in
     let l = c .before .before .before .before .before .loop in
     let e : l .i ≡ a .w * a .h = omega (arith, l .inv .1, l .inv .3, c .before .before .before .before .loop-test .left, s .pre .1 .places) in (
@@ -172,12 +156,9 @@ walk-size-spec =
     (tie.spec
     Inv-loop
     μ-loop
-    slice-reshare-prefix-blank-above
-    slice-aggregate-blank-above
-    blank-above-requires
-    slice-reshare-prefix-blank-under
-    slice-aggregate-blank-under
-    blank-under-requires
+    slice-reshare-prefix-band-of
+    slice-aggregate-band-of
+    band-of-requires
     add-v
     cast-v
     next-place-requires
