@@ -37,5 +37,8 @@ pub fn next_place(labels: &[u8], v: u8, from: usize) -> usize
     requires { ⌜ from ≤ length (now labels) ⌝ }
     ensures { λ i. ⌜ (from ≤ i) × (i ≤ length (now (labels .entry))) × Without v from i (now (labels .entry)) ⌝ }
 {
+    if from < labels.len() && labels[from] == v {
+        return from;
+    }
     past_places(labels, v, past_blocks(labels, v, from))
 }

@@ -6,18 +6,26 @@ use Rattle.minimal.proofs.PlaceLaws.{without-both}
 use Rattle.minimal.proofs.places.next_place.Statement.{statement}
 use Rattle.minimal.proofs.places.next_place.Tie as tie
 
+shared-slice-read-if2 : tie.Need-shared-slice-read-if2
+shared-slice-read-if2 c = search needs
+
+returns : tie.Need-returns
+returns c = search needs
+
 past-blocks-requires : tie.Need-past-blocks-requires
 past-blocks-requires c κs = search needs
 
 past-places-requires : tie.Need-past-places-requires
 past-places-requires c κs = search needs
 
-returns : tie.Need-returns
-returns c =
-    let a = c .before .before .before .args in
+returns-2 : tie.Need-returns-2
+returns-2 c =
+    let a = c .before .before .before .before .args in
     let b = c .before .past-blocks .ensures in
     let e = c .past-places .ensures in
     (omega (arith, b .0, e .0), e .1, without-both (a .v) (a .from) _ _ (now (a .labels)) (b .2) (e .2))
 
 pub next-place-spec : {M : Type 1} → statement M
-next-place-spec = tie.close (tie.spec past-blocks-requires past-places-requires returns)
+next-place-spec =
+    tie.close
+    (tie.spec shared-slice-read-if2 returns past-blocks-requires past-places-requires returns-2)
