@@ -1,18 +1,18 @@
-ghost use Prim.Native.Nat.{_≤_};
+ghost use Prim.Native.Nat.{_<_, _≤_};
 ghost use lib.ListN.{length};
 ghost use Rattle.minimal.specs.Sizes.{Without};
 
-// Passes over blocks of 64 places without label v.
-fn past_blocks(labels: &[u8], v: u8, from: usize) -> usize
-    requires { ⌜ from ≤ length (now labels) ⌝ }
+// Passes over blocks of k places without label v.
+fn past_blocks(labels: &[u8], v: u8, k: usize, from: usize) -> usize
+    requires { ⌜ (from ≤ length (now labels)) × (0 < k) ⌝ }
     ensures { λ i. ⌜ (from ≤ i) × (i ≤ length (now (labels .entry))) × Without v from i (now (labels .entry)) ⌝ }
 {
     let mut i = from;
-    while labels.len() - i >= 64 {
-        if labels::points::has_label(&labels[i..i + 64], v) {
+    while labels.len() - i >= k {
+        if labels::points::has_label(&labels[i..i + k], v) {
             return i;
         }
-        i = i + 64;
+        i = i + k;
     }
     i
 }
@@ -40,5 +40,7 @@ pub fn next_place(labels: &[u8], v: u8, from: usize) -> usize
     if from < labels.len() && labels[from] == v {
         return from;
     }
-    past_places(labels, v, past_blocks(labels, v, from))
+    let far = past_blocks(labels, v, 64, from);
+    let near = past_blocks(labels, v, 16, far);
+    past_places(labels, v, near)
 }

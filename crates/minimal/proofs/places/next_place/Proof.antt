@@ -15,17 +15,22 @@ returns c = search needs
 past-blocks-requires : tie.Need-past-blocks-requires
 past-blocks-requires c κs = search needs
 
+past-blocks-requires-2 : tie.Need-past-blocks-requires-2
+past-blocks-requires-2 c κs = search needs
+
 past-places-requires : tie.Need-past-places-requires
 past-places-requires c κs = search needs
 
 returns-2 : tie.Need-returns-2
 returns-2 c =
-    let a = c .before .before .before .before .args in
-    let b = c .before .past-blocks .ensures in
+    let a = c .before .before .before .before .before .args in
+    let f = c .before .before .past-blocks .ensures in
+    let b = c .before .past-blocks2 .ensures in
     let e = c .past-places .ensures in
-    (omega (arith, b .0, e .0), e .1, without-both (a .v) (a .from) _ _ (now (a .labels)) (b .2) (e .2))
+    let m = now (a .labels) in
+    (omega (arith, f .0, b .0, e .0), e .1, without-both (a .v) (a .from) _ _ m (without-both (a .v) (a .from) _ _ m (f .2) (b .2)) (e .2))
 
 pub next-place-spec : {M : Type 1} → statement M
 next-place-spec =
     tie.close
-    (tie.spec shared-slice-read-if2 returns past-blocks-requires past-places-requires returns-2)
+    (tie.spec shared-slice-read-if2 returns past-blocks-requires past-blocks-requires-2 past-places-requires returns-2)

@@ -10,13 +10,13 @@ use Rattle.minimal.proofs.places.past_blocks.Statement.{statement}
 use Rattle.minimal.proofs.places.past_blocks.Tie as tie
 
 abbrev Inv-loop : tie.InvT-loop
-Inv-loop labels v from i₀ i = (from ≤ i) × (i ≤ length labels) × Without v from i labels
+Inv-loop labels v k from i₀ i = (from ≤ i) × (i ≤ length labels) × Without v from i labels
 
 abbrev μ-loop : tie.MeasureT-loop
-μ-loop labels v from i₀ i = length labels - i
+μ-loop labels v k from i₀ i = length labels - i
 
 loop-holds : tie.Need-loop-holds Inv-loop μ-loop
-loop-holds c = let s = c .before in let a = s .args in (omega arith, s .pre, without-none (a .v) (a .from) (now (a .labels)))
+loop-holds c = let s = c .before in let a = s .args in (omega arith, s .pre .0, without-none (a .v) (a .from) (now (a .labels)))
 
 sub-loop : tie.Need-sub-loop Inv-loop μ-loop
 sub-loop c = c .loop .inv .1
@@ -43,18 +43,18 @@ add-i : tie.Need-add-i Inv-loop μ-loop
 add-i c = omega (arith, c .before .before .before .loop-test .taken, c .before .before .before .before .loop .inv .1)
 
 loop-less : tie.Need-loop-less Inv-loop μ-loop
-loop-less c = omega (arith, c .before .before .before .loop-test .taken, c .before .before .before .before .loop .inv .1)
+loop-less c = omega (arith, c .before .before .before .before .before .before .pre .1, c .before .before .before .loop-test .taken, c .before .before .before .before .loop .inv .1)
 
 loop-again : tie.Need-loop-again Inv-loop μ-loop
 loop-again c =
     let a = c .before .before .before .before .before .before .args in
     let l = c .before .before .before .before .loop in
     let t = c .before .before .before .loop-test .taken in
-    let h : l .i + 64 ≤ length (now (a .labels)) = omega (arith, t, l .inv .1) in (
+    let h : l .i + a .k ≤ length (now (a .labels)) = omega (arith, t, l .inv .1) in (
       omega (arith, l .inv .0),
       h,
-      without-both (a .v) (a .from) (l .i) (l .i + 64) (now (a .labels)) (l .inv .2)
-          (without-block (a .v) (l .i) 64 (l .i + 64 - l .i) (now (a .labels)) (omega arith) h (sym (c .before .has-label .ensures) ∙ c .if1 .left)),
+      without-both (a .v) (a .from) (l .i) (l .i + a .k) (now (a .labels)) (l .inv .2)
+          (without-block (a .v) (l .i) (a .k) (l .i + a .k - l .i) (now (a .labels)) (omega arith) h (sym (c .before .has-label .ensures) ∙ c .if1 .left)),
     )
 
 returns-2 : tie.Need-returns-2 Inv-loop μ-loop
