@@ -9,7 +9,7 @@ use borrow.Author.Tests.{eq-eqb}
 use lib.Dec.{T, eqb}
 use lib.ListN.{drop, getD, length, length-drop, take}
 use lib.Seq.{getD-drop, getD-take, length-take-le}
-use Rattle.morphology.specs.Lists.{any}
+use Rattle.morphology.specs.Lists.{any, greatest}
 use Rattle.morphology.proofs.RefusalLaws.{or-out-false}
 use Rattle.minimal.specs.Sizes.{Without}
 
@@ -38,3 +38,26 @@ without-block v i n k m e h z j lo hi q =
     let t : j - i < k = omega arith in
     let s : length (take k (drop i m)) ≡ k = length-take-le k (drop i m) (omega (arith, length-drop i m)) in
     unseen v (take k (drop i m)) (j - i) z (omega (arith, s)) (getD-take k (drop i m) (j - i) 0 t ∙ getD-drop i m (j - i) 0 ∙ ap (λ (x : ℕ). getD m x 0) l ∙ q)
+
+-- ---- the largest label
+
+some-label : (b : ℕ) (m : List ℕ) → b < greatest m → 0 < length m
+unfolding greatest
+some-label b [] l = omega arith
+some-label b (v ∷ m) l = omega arith
+
+greatest-met : (m : List ℕ) → 0 < length m → ((j : ℕ) → j < length m → getD m j 0 ≡ greatest m → ⊥) → ⊥
+unfolding greatest
+greatest-met [] h f = omega arith
+greatest-met (b ∷ m) h f = by (decLt b (greatest m)) (λ l. greatest-met m (some-label b m l) (λ j k q. f (suc j) (omega arith) (omega arith)))
+  where
+    by : Dec (b < greatest m) → (b < greatest m → ⊥) → ⊥
+    by (no l) g = f 0 h (omega arith)
+    by (yes l) g = g l
+
+pub tallest-place : (m : List ℕ) (v i : ℕ) → 0 < length m → v ≡ greatest m → Without v 0 i m → i ≤ length m → (i < length m → getD m i 0 ≡ v) → (i < length m) × (getD m i 0 ≡ greatest m)
+tallest-place m v i h e w l f = by (decLt i (length m))
+  where
+    by : Dec (i < length m) → (i < length m) × (getD m i 0 ≡ greatest m)
+    by (yes k) = (k, f k ∙ e)
+    by (no k) = absurd (greatest-met m h (λ j d q. w j (omega arith) (omega arith) (q ∙ sym e)))

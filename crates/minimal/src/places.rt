@@ -1,5 +1,6 @@
+ghost use mathlib.Core.Path.{_≡_};
 ghost use Prim.Native.Nat.{_<_, _≤_};
-ghost use lib.ListN.{length};
+ghost use lib.ListN.{length, getD};
 ghost use Rattle.minimal.specs.Sizes.{Without};
 
 // Passes over blocks of k places without label v.
@@ -17,10 +18,10 @@ fn past_blocks(labels: &[u8], v: u8, k: usize, from: usize) -> usize
     i
 }
 
-// Passes over places without label v, one by one.
+// The next place with label v, or the end; one by one.
 fn past_places(labels: &[u8], v: u8, from: usize) -> usize
     requires { ⌜ from ≤ length (now labels) ⌝ }
-    ensures { λ i. ⌜ (from ≤ i) × (i ≤ length (now (labels .entry))) × Without v from i (now (labels .entry)) ⌝ }
+    ensures { λ i. ⌜ (from ≤ i) × (i ≤ length (now (labels .entry))) × Without v from i (now (labels .entry)) × (i < length (now (labels .entry)) → getD (now (labels .entry)) i 0 ≡ v) ⌝ }
 {
     let mut i = from;
     while i < labels.len() {
@@ -32,10 +33,10 @@ fn past_places(labels: &[u8], v: u8, from: usize) -> usize
     i
 }
 
-// A place from which on label v is looked for: no place before it has the label.
+// The same; most places are passed over by blocks.
 pub fn next_place(labels: &[u8], v: u8, from: usize) -> usize
     requires { ⌜ from ≤ length (now labels) ⌝ }
-    ensures { λ i. ⌜ (from ≤ i) × (i ≤ length (now (labels .entry))) × Without v from i (now (labels .entry)) ⌝ }
+    ensures { λ i. ⌜ (from ≤ i) × (i ≤ length (now (labels .entry))) × Without v from i (now (labels .entry)) × (i < length (now (labels .entry)) → getD (now (labels .entry)) i 0 ≡ v) ⌝ }
 {
     if from < labels.len() && labels[from] == v {
         return from;

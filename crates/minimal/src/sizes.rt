@@ -4,7 +4,7 @@ use crate::covers;
 use crate::places;
 ghost use mathlib.Core.Path.{_≡_};
 ghost use mathlib.Core.Bool.{true, cond, not, _&&_};
-ghost use Prim.Native.Nat.{_+_, _*_, _<_, _≤_, _^_, max};
+ghost use Prim.Native.Nat.{_+_, _*_, _<_, _≤_, _^_};
 ghost use lib.Dec.{eqb};
 ghost use lib.ListN.{length, getD, replicate};
 ghost use Rattle.morphology.specs.Element.{offsets};
@@ -78,29 +78,13 @@ pub fn mark(w: usize, h: usize, r: usize, a: usize, work: &mut [u8])
     work[a / w * r + x / 8] = 128u8 >> ((x % 8) as u32);
 }
 
-// The place of the larger of two labels.
-fn taller(labels: &[u8], a: usize, i: usize) -> usize
-    requires { ⌜ (a < length (now labels)) × (i < length (now labels)) ⌝ }
-    ensures { λ b. ⌜ (b < length (now (labels .entry))) × (getD (now (labels .entry)) b 0 ≡ max (getD (now (labels .entry)) a 0) (getD (now (labels .entry)) i 0)) ⌝ }
-{
-    if labels[a] < labels[i] {
-        return i;
-    }
-    a
-}
-
-// A place of the largest label.
+// The first place of the largest label.
 pub fn tallest(labels: &[u8]) -> usize
     requires { ⌜ 0 < length (now labels) ⌝ }
     ensures { λ a. ⌜ (a < length (now (labels .entry))) × (getD (now (labels .entry)) a 0 ≡ greatest (now (labels .entry))) ⌝ }
 {
-    let mut a: usize = 0;
-    let mut i: usize = 0;
-    while i < labels.len() {
-        a = taller(labels, a, i);
-        i = i + 1;
-    }
-    a
+    let top = labels::points::greatest(labels);
+    places::next_place(labels, top, 0)
 }
 
 // Each counter becomes 0.

@@ -21,7 +21,7 @@ shared-slice-read-if1 : tie.Need-shared-slice-read-if1 Inv-loop μ-loop
 shared-slice-read-if1 c = c .before .loop-test .taken
 
 returns : tie.Need-returns Inv-loop μ-loop
-returns c = c .before .before .before .loop .inv
+returns c = let v = c .before .before .before .loop .inv in (v .0, v .1, v .2, λ h. c .if1 .taken)
 
 add-i : tie.Need-add-i Inv-loop μ-loop
 add-i c = omega (arith, c .before .before .loop-test .taken, c .before .before .before .loop .inv .1)
@@ -37,7 +37,7 @@ loop-again c =
     (omega (arith, l .inv .0), omega (arith, t), without-both (a .v) (a .from) (l .i) (l .i + 1) (now (a .labels)) (l .inv .2) (without-one (a .v) (l .i) (now (a .labels)) (c .if1 .left)))
 
 returns-2 : tie.Need-returns-2 Inv-loop μ-loop
-returns-2 c = c .before .loop .inv
+returns-2 c = let v = c .before .loop .inv in (v .0, v .1, v .2, λ h. absurd (omega (arith, c .loop-test .left)))
 
 pub past-places-spec : {M : Type 1} → statement M
 past-places-spec =
