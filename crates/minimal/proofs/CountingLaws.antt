@@ -5,7 +5,7 @@ use mathlib.Core.Logic.{_≢_, _⊎_, inl, inr}
 use mathlib.Core.Path.{_∙_, _≡_, ap, ap₂, fun-ext, refl, subst, sym}
 use Prim.Native.Nat.{_*_, _+_, _-_, _<_, _≤_, suc, zero, zero-le, ℕ}
 use native.Mathlib.Decide.{decLt, ℕ-discrete}
-use native.Mathlib.Nat.{add-suc, suc-add}
+use native.Mathlib.Nat.{add-zero}
 use native.Mathlib.Numerals.{add-one}
 use native.Mathlib.Omega.{arith}
 use borrow.Author.Tests.{eq-eqb, eqb-true, le-leb, le-ltb, lt-leb, lt-ltb, ne-eqb}
@@ -25,7 +25,7 @@ use Rattle.morphology.proofs.TestLaws.{T-ext, and-l, and-r, or-l, or-out, or-r}
 use Rattle.minimal.specs.Bands.{inkAt}
 use Rattle.minimal.specs.Covers.{Stays, counts, cover, spread}
 use Rattle.minimal.specs.Moves.{Moved, Open, below, hits}
-use Rattle.minimal.specs.Sizes.{Counting, Past, Shape, Tame, before, coverTo}
+use Rattle.minimal.specs.Sizes.{Counting, Shape, Tame, Without, before, coverTo}
 use Rattle.minimal.proofs.CoverCountLaws.{count-split, covers-dilate, covers-none}
 use Rattle.minimal.proofs.SizeLaws.{shape-hits, shape-within}
 
@@ -75,15 +75,6 @@ module _ (m : List ℕ) (n i : ℕ) where
       ap₂ (λ (a b : Bool). leb (getD m i 0) n || (a && b)) (eq-eqb (getD m i 0) (n + 1) q) (lt-ltb i (i + 1) (omega arith))
       ∙ ap (λ (b : Bool). b || true) (lt-leb (getD m i 0) n (omega arith))
 
--- from e on no point of the size is left
-before-past : (m : List ℕ) (n e N j : ℕ) → Past n e m → e ≤ N → before m n e j ≡ before m n N j
-before-past m n e N j f h = by (ℕ-discrete (getD m j 0) (n + 1)) (decLt j e)
-  where
-    by : Dec (getD m j 0 ≡ n + 1) → Dec (j < e) → before m n e j ≡ before m n N j
-    by (yes q) (no l) = absurd (f j (omega arith) q)
-    by (yes q) (yes l) = ap (λ (b : Bool). leb (getD m j 0) n || (eqb (getD m j 0) (n + 1) && b)) (lt-ltb j e l ∙ sym (lt-ltb j N (omega arith)))
-    by (no q) d = ap (λ (b : Bool). leb (getD m j 0) n || (b && ltb j e)) (ne-eqb (getD m j 0) (n + 1) q) ∙ sym (ap (λ (b : Bool). leb (getD m j 0) n || (b && ltb j N)) (ne-eqb (getD m j 0) (n + 1) q))
-
 before-size : (m : List ℕ) (n N j : ℕ) → j < N → before m n N j ≡ before m (n + 1) 0 j
 before-size m n N j h = T-ext
     (λ t. to (or-out (leb v n) (eqb v (n + 1) && ltb j N) t))
@@ -106,23 +97,6 @@ before-size m n N j h = T-ext
           where
             below : v ≤ n + 1 → v ≢ n + 1 → v ≤ n
             below l f = omega arith
-
--- a map without a point of the size; one is never past its end
-pub past-none : (m : List ℕ) (n : ℕ) → any (λ b. eqb b (n + 1)) m ≡ false → Past n 0 m
-past-none m n e j h q = by m j e q
-  where
-    by : (m : List ℕ) (j : ℕ) → any (λ b. eqb b (n + 1)) m ≡ false → getD m j 0 ≡ n + 1 → ⊥
-    by [] j e q = omega arith
-    by (v ∷ m) zero e q = subst T (or-out-false (eqb v (n + 1)) (any (λ b. eqb b (n + 1)) m) e .0) (subst T (sym (eq-eqb v (n + 1) q)) tt)
-    by (v ∷ m) (suc j) e q = by m j (or-out-false (eqb v (n + 1)) (any (λ b. eqb b (n + 1)) m) e .1) q
-
-pub past-all : (m : List ℕ) (n : ℕ) → Past n (length m) m
-past-all m n j h q = let z = getD-past m j h in omega arith
-  where
-    getD-past : (m : List ℕ) (j : ℕ) → length m ≤ j → getD m j 0 ≡ 0
-    getD-past [] j h = refl
-    getD-past (v ∷ m) zero h = absurd (omega arith)
-    getD-past (v ∷ m) (suc j) h = getD-past m j (omega arith)
 
 module _ (W H : ℕ) (B : List Point) (m : List ℕ) where
   -- ---- how many cover z
@@ -171,9 +145,11 @@ module _ (W H : ℕ) (B : List Point) (m : List ℕ) where
       let l : j < W * H = omega arith in
       ap (λ (b : Bool). b && covers W B m z j) (before-size m n (W * H) j l))
 
-  cover-past : (n e : ℕ) → Past n e m → e ≤ W * H → (z : Point) → coverTo W H B m n e z ≡ coverTo W H B m n (W * H) z
-  unfolding coverTo
-  cover-past n e f h z = ap (λ (p : ℕ → Bool). count p (upTo (W * H))) (fun-ext (λ j. ap (λ (b : Bool). b && covers W B m z j) (before-past m n e (W * H) j f h)))
+  cover-gap : (n i d : ℕ) → Without (n + 1) i (i + d) m → (z : Point) → coverTo W H B m n i z ≡ coverTo W H B m n (i + d) z
+  cover-gap n i zero f z = ap (λ (k : ℕ). coverTo W H B m n k z) (sym (add-zero i))
+  cover-gap n i (suc d) f z =
+      let e : i + d + 1 ≡ i + suc d = omega arith in
+      cover-gap n i d (λ j lo hi. f j lo (omega arith)) z ∙ sym (cover-skip n (i + d) (f (i + d) (omega arith) (omega arith)) z) ∙ ap (λ (k : ℕ). coverTo W H B m n k z) e
 
   cover-all : (n : ℕ) → greatest m ≤ n → (z : Point) → coverTo W H B m n 0 z ≡ cover W H B m z
   unfolding coverTo cover
@@ -193,8 +169,13 @@ module _ (W H : ℕ) (B : List Point) (m : List ℕ) where
   unfolding raster
   counting-start = sym (row-zeros (λ x. coverTo W H B m 0 0 (place W x)) 0 (W * H) (λ x. cover-none (place W x)))
 
-  pub counting-size : (n e : ℕ) (c : List ℕ) → Past n e m → e ≤ W * H → Counting W H B m n e c → Counting W H B m (n + 1) 0 c
-  counting-size n e c f h q = q ∙ ap (raster W H) (fun-ext (λ z. cover-past n e f h z ∙ cover-size n z))
+  pub counting-gap : (n i e : ℕ) (c : List ℕ) → i ≤ e → Without (n + 1) i e m → Counting W H B m n i c → Counting W H B m n e c
+  counting-gap n i e c h f q =
+      let z : i + (e - i) ≡ e = omega arith in
+      q ∙ ap (raster W H) (fun-ext (λ z. cover-gap n i (e - i) (λ j lo hi. f j lo (omega arith)) z)) ∙ ap (λ (k : ℕ). raster W H (coverTo W H B m n k)) z
+
+  pub counting-size : (n e : ℕ) (c : List ℕ) → e ≡ W * H → Counting W H B m n e c → Counting W H B m (n + 1) 0 c
+  counting-size n e c h q = q ∙ ap (λ (k : ℕ). raster W H (coverTo W H B m n k)) h ∙ ap (raster W H) (fun-ext (λ z. cover-size n z))
 
   pub counting-last : (n : ℕ) (c : List ℕ) → greatest m ≤ n → Counting W H B m n 0 c → c ≡ counts W H B m
   counting-last n c h q = q ∙ ap (raster W H) (fun-ext (λ z. cover-all n h z))

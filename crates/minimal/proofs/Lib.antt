@@ -1,6 +1,7 @@
 pub mod CoverCountLaws
 pub mod SpreadLaws
 pub mod MoveLaws
+pub mod PlaceLaws
 pub mod PixelLaws
 pub mod BandLaws
 pub mod SizeLaws

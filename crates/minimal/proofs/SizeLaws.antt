@@ -21,7 +21,8 @@ use Rattle.morphology.proofs.ReconstructLaws.{times-mono}
 use Rattle.morphology.proofs.TestLaws.{T-ext, and-in, and-l, and-r}
 use Rattle.steps.specs.Steps.{First, dilated}
 use Rattle.steps.proofs.StepLaws.{dilated-is, dilated-more, dilated-on, dilated-start, first-clean, first-image, sheet-bytes}
-use Rattle.minimal.specs.Bands.{Banded, Blank, inkAt}
+use Rattle.minimal.specs.Bands.{Banded, Bounds, inkAt}
+use Rattle.minimal.specs.declared.bands.Band.{Band}
 use Rattle.minimal.specs.Covers.{Stays, single, spread}
 use Rattle.minimal.specs.Moves.{Within, below, hits}
 use Rattle.minimal.specs.Sizes.{Begun, Left, Shape}
@@ -44,15 +45,12 @@ module _ (W H r p : ℕ) (B : List Point) (n a : ℕ) (work : List ℕ) (s : Sha
   pub plane-set : imageSet W H (take p work) ≡ spread W B n a
   plane-set = image-agree W H (take p work) work agree ∙ s .set
 
-  pub plane-banded : (above under : ℕ) → above + under ≤ H → Blank 0 (above * r) (take p work) → Blank ((H - under) * r) (H * r) (take p work)
-      → Banded W H r above under (take p work)
-  plane-banded above under h t b = record {
+  pub plane-banded : (g : Band) → Bounds H r g (take p work) → Banded W H r g (take p work)
+  plane-banded g b = record {
     frame = s .sheet .frame;
     bytes = plane-rows;
     clean = clean-agree W H work (take p work) (λ j l. sym (agree j l)) (s .clean);
-    rows = h;
-    top = t;
-    bottom = b;
+    bounds = b;
   }
 
   -- ---- moved to a point

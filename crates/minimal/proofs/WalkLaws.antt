@@ -4,7 +4,7 @@ use mathlib.Core.List.{List}
 use mathlib.Core.Logic.{_⊎_, inl, inr}
 use mathlib.Core.Path.{_∙_, _≡_, ap, ap₂, refl, subst, sym}
 use Prim.Native.Nat.{_*_, _+_, _-_, _<_, _≤_, suc, zero, ℕ}
-use native.Mathlib.Nat.{add-suc, add-zero}
+use native.Mathlib.Nat.{add-zero}
 use native.Mathlib.Numerals.{add-one}
 use native.Mathlib.Omega.{arith}
 use borrow.Author.Tests.{eq-eqb, ne-eqb}
@@ -22,7 +22,7 @@ use Rattle.morphology.proofs.TestLaws.{T-ext, all-in, all-out, and-l, and-r, de
 use Rattle.minimal.specs.Bands.{inkAt}
 use Rattle.minimal.specs.Covers.{Stays, counts, spread}
 use Rattle.minimal.specs.Moves.{Moved, Open, Twice, Within, below, counted, hits}
-use Rattle.minimal.specs.Sizes.{Past, Shape, Tame}
+use Rattle.minimal.specs.Sizes.{Shape, Tame, Without}
 use Rattle.minimal.specs.Walks.{Stepped, Walked}
 use Rattle.minimal.proofs.CoverCountLaws.{allTwice, counters-drop, counts-length, drop-turn, minimal-start, minimal-turn, size-start, size-turn}
 use Rattle.minimal.proofs.MoveLaws.{hits-at, moved-unless, moved-when, tells-no, tells-yes}
@@ -174,23 +174,22 @@ module _ (W H : ℕ) (B : List Point) (n : ℕ) (m₀ : List ℕ) where
   pub size-tame : (i : ℕ) (m : List ℕ) → Tame W H B m₀ → m ≡ dropSize W H B n (upTo i) m₀ → length m ≡ length m₀ → Tame W H B m
   size-tame i m t q e = tame-sub W H B m₀ m t (subst (λ (l : List ℕ). Sub l m₀) (sym q) (size-sub W H B n (upTo i) m₀)) e
 
-  -- from e on no point of the size is left
+  -- places without a point of the size
   drop-idle : (i : ℕ) (m : List ℕ) → (getD m i 0 ≡ n + 1 → ⊥) → dropAt W H B n m i ≡ m
   unfolding dropAt
   drop-idle i m f = ap (λ (b : Bool). cond (b && isRedundant W H B n m i) (set m i 0) m) (ne-eqb (getD m i 0) (suc n) (λ q. f (q ∙ sym (add-one n))))
 
-  size-past : (e d : ℕ) → Past n e m₀ → dropSize W H B n (upTo (e + d)) m₀ ≡ dropSize W H B n (upTo e) m₀
-  size-past e zero f = ap (λ (k : ℕ). dropSize W H B n (upTo k) m₀) (add-zero e)
-  size-past e (suc d) f =
-      let m = dropSize W H B n (upTo (e + d)) m₀ in
-      ap (λ (k : ℕ). dropSize W H B n (upTo k) m₀) (add-suc e d) ∙ size-turn W H B n (e + d) m₀
-      ∙ drop-idle (e + d) m (λ q. f (e + d) (omega arith) (sub-label m m₀ (size-sub W H B n (upTo (e + d)) m₀) (e + d) n (q ∙ add-one n) ∙ sym (add-one n)))
-      ∙ size-past e d f
+  gap : (i d : ℕ) (m : List ℕ) → Without (n + 1) i (i + d) m → m ≡ dropSize W H B n (upTo i) m₀ → m ≡ dropSize W H B n (upTo (i + d)) m₀
+  gap i zero m f q = q ∙ ap (λ (k : ℕ). dropSize W H B n (upTo k) m₀) (sym (add-zero i))
+  gap i (suc d) m f q =
+      let e : i + d + 1 ≡ i + suc d = omega arith in
+      size-more (i + d) m m (gap i d m (λ j lo hi. f j lo (omega arith)) q) (sym (drop-idle (i + d) m (f (i + d) (omega arith) (omega arith))))
+      ∙ ap (λ (k : ℕ). dropSize W H B n (upTo k) m₀) e
 
-  pub size-end : (e : ℕ) (m : List ℕ) → Past n e m₀ → e ≤ W * H → m ≡ dropSize W H B n (upTo e) m₀ → m ≡ dropSize W H B n (upTo (W * H)) m₀
-  size-end e m f h q =
-      let z : e + (W * H - e) ≡ W * H = omega arith in
-      q ∙ sym (size-past e (W * H - e) f) ∙ ap (λ (k : ℕ). dropSize W H B n (upTo k) m₀) z
+  pub size-gap : (i e : ℕ) (m : List ℕ) → i ≤ e → Without (n + 1) i e m → m ≡ dropSize W H B n (upTo i) m₀ → m ≡ dropSize W H B n (upTo e) m₀
+  size-gap i e m h f q =
+      let z : i + (e - i) ≡ e = omega arith in
+      gap i (e - i) m (λ j lo hi. f j lo (omega arith)) q ∙ ap (λ (k : ℕ). dropSize W H B n (upTo k) m₀) z
 
 -- ---- size by size
 

@@ -1,4 +1,4 @@
--- A plane with blank rows at its top and bottom. Definitions only; proofs/PixelLaws.antt has the laws.
+-- A plane that is blank outside of a band. Definitions only; proofs/PixelLaws.antt has the laws.
 use mathlib.Core.Bool.{Bool}
 use mathlib.Core.List.{List}
 use mathlib.Core.Path.{_≡_}
@@ -8,6 +8,7 @@ use lib.ListN.{getD, length}
 use Rattle.morphology.specs.Image.{imageSet, isClean}
 use Rattle.morphology.specs.Labels.{place}
 use Rattle.planes.specs.Frames.{Frame}
+use Rattle.minimal.specs.declared.bands.Band.{Band}
 
 -- place q is foreground
 abbrev pub inkAt : ℕ → ℕ → List ℕ → (ℕ → Bool)
@@ -17,11 +18,30 @@ inkAt W H s q = imageSet W H s (place W q)
 abbrev pub Blank : ℕ → ℕ → List ℕ → Type 0
 Blank a e s = (d : ℕ) → a ≤ d → d < e → getD s d 0 ≡ 0
 
--- a plane of which the rows above and under are blank
-pub record Banded (W H r above under : ℕ) (s : List ℕ) : Type 0 where
+-- in the rows from..to the bytes from a on, up to e, are
+abbrev pub Strip : ℕ → ℕ → ℕ → ℕ → ℕ → List ℕ → Type 0
+Strip r from to a e s = (y : ℕ) → from ≤ y → y < to → Blank (y * r + a) (y * r + e) s
+
+-- of a row of r bytes at d those before left and from right on are
+pub record Margins (d r left right : ℕ) (s : List ℕ) : Type 0 where
+  pub order : left ≤ right
+  pub room : right ≤ r
+  pub start : Blank d (d + left) s
+  pub end : Blank (d + right) (d + r) s
+
+-- what is outside of a band is blank
+pub record Bounds (H r : ℕ) (g : Band) (s : List ℕ) : Type 0 where
+  pub rows : g .above + g .under ≤ H
+  pub order : g .left ≤ g .right
+  pub room : g .right ≤ r
+  pub top : Blank 0 (g .above * r) s
+  pub bottom : Blank ((H - g .under) * r) (H * r) s
+  pub start : Strip r (g .above) (H - g .under) 0 (g .left) s
+  pub end : Strip r (g .above) (H - g .under) (g .right) r s
+
+-- a plane and its band
+pub record Banded (W H r : ℕ) (g : Band) (s : List ℕ) : Type 0 where
   pub frame : Frame W H r
   pub bytes : H * r ≤ length s
   pub clean : T (isClean W H s)
-  pub rows : above + under ≤ H
-  pub top : Blank 0 (above * r) s
-  pub bottom : Blank ((H - under) * r) (H * r) s
+  pub bounds : Bounds H r g s

@@ -44,9 +44,9 @@ pub record Left (p : ℕ) (old new : List ℕ) : Type 0 where
   pub size : length new ≡ length old
   pub rest : drop (2 * p) new ≡ drop (2 * p) old
 
--- no point of size n from place e on
-abbrev pub Past : ℕ → ℕ → List ℕ → Type 0
-Past n e m = (j : ℕ) → e ≤ j → getD m j 0 ≡ n + 1 → ⊥
+-- no place from i on, up to e, has label v
+abbrev pub Without : ℕ → ℕ → ℕ → List ℕ → Type 0
+Without v i e m = (j : ℕ) → i ≤ j → j < e → getD m j 0 ≡ v → ⊥
 
 -- counted before place i of size n: a smaller size, or a place before
 abbrev pub before : List ℕ → ℕ → ℕ → ℕ → Bool

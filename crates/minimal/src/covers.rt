@@ -1,3 +1,4 @@
+use crate::bands::Band;
 ghost use mathlib.Core.Path.{_≡_};
 ghost use mathlib.Core.Bool.{true};
 ghost use Prim.Native.Nat.{_+_, _*_, _-_, _<_, _≤_, _^_};
@@ -5,7 +6,7 @@ ghost use lib.Dec.{T};
 ghost use lib.ListN.{length};
 ghost use Rattle.morphology.specs.Image.{bitOf};
 ghost use Rattle.raster.specs.Rows.{rowBit};
-ghost use Rattle.minimal.specs.Bands.{Banded, inkAt, Blank};
+ghost use Rattle.minimal.specs.Bands.{Banded, Margins, inkAt};
 ghost use Rattle.minimal.specs.Moves.{below, hits, Within, counted, Free, Open, Moved, Twice, Tells};
 
 // Whether pixel k of a byte is foreground.
@@ -65,13 +66,23 @@ fn move_byte(up: bool, b: u8, at: usize, a: usize, counters: &mut [u16])
     move_bits(up, b, at, a, counters);
 }
 
-// The counters of a row's pixels: the r bytes at d.
-fn move_row(up: bool, plane: &[u8], d: usize, r: usize, at: usize, a: usize, counters: &mut [u16])
-    requires { ⌜ (at < 2 ^ 31) × (r ≤ 128) × (d + r ≤ length (now plane)) × Open up (below (8 * r) (λ k. rowBit (now plane) (8 * d + k))) at a (now counters) ⌝ }
+// The counters of a row's pixels: the r bytes at d, blank before left and from right on.
+fn move_row(
+    up: bool,
+    plane: &[u8],
+    d: usize,
+    r: usize,
+    left: usize,
+    right: usize,
+    at: usize,
+    a: usize,
+    counters: &mut [u16],
+)
+    requires { ⌜ (at < 2 ^ 31) × (r ≤ 128) × (d + r ≤ length (now plane)) × Margins d r left right (now plane) × Open up (below (8 * r) (λ k. rowBit (now plane) (8 * d + k))) at a (now counters) ⌝ }
     ensures { λ _. ⌜ Moved up (hits (below (8 * r) (λ k. rowBit (now (plane .entry)) (8 * d + k))) at a) (now (counters .entry)) (now (counters .exit)) ⌝ }
 {
-    let mut j: usize = 0;
-    while j < r {
+    let mut j = left;
+    while j < right {
         move_byte(up, plane[d + j], at + 8 * j, a, counters);
         j = j + 1;
     }
@@ -84,19 +95,28 @@ pub fn move_cover(
     w: usize,
     h: usize,
     r: usize,
-    above: usize,
-    under: usize,
+    band: Band,
     a: usize,
     i: usize,
     counters: &mut [u16],
 )
-    requires { ⌜ Banded w h r above under (now plane) × (i < 2 ^ 30) × Open up (below (w * h) (inkAt w h (now plane))) i a (now counters) ⌝ }
+    requires { ⌜ Banded w h r band (now plane) × (i < 2 ^ 30) × Open up (below (w * h) (inkAt w h (now plane))) i a (now counters) ⌝ }
     ensures { λ _. ⌜ Moved up (hits (below (w * h) (inkAt w h (now (plane .entry)))) i a) (now (counters .entry)) (now (counters .exit)) ⌝ }
 {
-    let end = h - under;
-    let mut y = above;
+    let end = h - band.under;
+    let mut y = band.above;
     while y < end {
-        move_row(up, plane, y * r, r, i + y * w, a, counters);
+        move_row(
+            up,
+            plane,
+            y * r,
+            r,
+            band.left,
+            band.right,
+            i + y * w,
+            a,
+            counters,
+        );
         y = y + 1;
     }
 }
@@ -141,12 +161,21 @@ fn byte_is_twice(b: u8, at: usize, a: usize, counters: &[u16]) -> bool
 }
 
 // Whether those of a row's pixels are.
-fn row_is_twice(plane: &[u8], d: usize, r: usize, at: usize, a: usize, counters: &[u16]) -> bool
-    requires { ⌜ (at < 2 ^ 31) × (r ≤ 128) × (d + r ≤ length (now plane)) × Within (below (8 * r) (λ k. rowBit (now plane) (8 * d + k))) at a (length (now counters)) ⌝ }
+fn row_is_twice(
+    plane: &[u8],
+    d: usize,
+    r: usize,
+    left: usize,
+    right: usize,
+    at: usize,
+    a: usize,
+    counters: &[u16],
+) -> bool
+    requires { ⌜ (at < 2 ^ 31) × (r ≤ 128) × (d + r ≤ length (now plane)) × Margins d r left right (now plane) × Within (below (8 * r) (λ k. rowBit (now plane) (8 * d + k))) at a (length (now counters)) ⌝ }
     ensures { λ t. ⌜ Tells t (Twice (below (8 * r) (λ k. rowBit (now (plane .entry)) (8 * d + k))) at a (now (counters .entry))) ⌝ }
 {
-    let mut j: usize = 0;
-    while j < r {
+    let mut j = left;
+    while j < right {
         if !byte_is_twice(plane[d + j], at + 8 * j, a, counters) {
             return false;
         }
@@ -161,54 +190,30 @@ pub fn is_twice(
     w: usize,
     h: usize,
     r: usize,
-    above: usize,
-    under: usize,
+    band: Band,
     a: usize,
     i: usize,
     counters: &[u16],
 ) -> bool
-    requires { ⌜ Banded w h r above under (now plane) × (i < 2 ^ 30) × Within (below (w * h) (inkAt w h (now plane))) i a (length (now counters)) ⌝ }
+    requires { ⌜ Banded w h r band (now plane) × (i < 2 ^ 30) × Within (below (w * h) (inkAt w h (now plane))) i a (length (now counters)) ⌝ }
     ensures { λ t. ⌜ Tells t (Twice (below (w * h) (inkAt w h (now (plane .entry)))) i a (now (counters .entry))) ⌝ }
 {
-    let end = h - under;
-    let mut y = above;
+    let end = h - band.under;
+    let mut y = band.above;
     while y < end {
-        if !row_is_twice(plane, y * r, r, i + y * w, a, counters) {
+        if !row_is_twice(
+            plane,
+            y * r,
+            r,
+            band.left,
+            band.right,
+            i + y * w,
+            a,
+            counters,
+        ) {
             return false;
         }
         y = y + 1;
     }
     true
-}
-
-// The blank rows at the top of a plane.
-pub fn blank_above(plane: &[u8], h: usize, r: usize) -> usize
-    requires { ⌜ h * r ≤ length (now plane) ⌝ }
-    ensures { λ y. ⌜ (y ≤ h) × Blank 0 (y * r) (now (plane .entry)) ⌝ }
-{
-    let mut y: usize = 0;
-    while y < h {
-        let d = y * r;
-        if raster::has_ink(&plane[d..d + r]) {
-            return y;
-        }
-        y = y + 1;
-    }
-    h
-}
-
-// The blank rows at its bottom, below the rows above.
-pub fn blank_under(plane: &[u8], h: usize, r: usize, above: usize) -> usize
-    requires { ⌜ (h * r ≤ length (now plane)) × (above ≤ h) ⌝ }
-    ensures { λ y. ⌜ (above + y ≤ h) × Blank ((h - y) * r) (h * r) (now (plane .entry)) ⌝ }
-{
-    let mut y: usize = 0;
-    while y < h - above {
-        let d = (h - 1 - y) * r;
-        if raster::has_ink(&plane[d..d + r]) {
-            return y;
-        }
-        y = y + 1;
-    }
-    y
 }

@@ -1,4 +1,6 @@
+pub mod bands;
 pub mod covers;
+pub mod places;
 pub mod sizes;
 pub mod walks;
 

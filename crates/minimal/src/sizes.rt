@@ -1,7 +1,10 @@
+use crate::bands;
+use crate::bands::Band;
 use crate::covers;
+use crate::places;
 ghost use mathlib.Core.Path.{_≡_};
 ghost use mathlib.Core.Bool.{true, cond, not, _&&_};
-ghost use Prim.Native.Nat.{_+_, _*_, _<_, _≤_, _^_, max};
+ghost use Prim.Native.Nat.{_+_, _*_, _<_, _≤_, _^_};
 ghost use lib.Dec.{eqb};
 ghost use lib.ListN.{length, getD, replicate};
 ghost use Rattle.morphology.specs.Element.{offsets};
@@ -14,15 +17,14 @@ ghost use Rattle.steps.specs.Steps.{First};
 ghost use Rattle.minimal.specs.Bands.{Banded, inkAt};
 ghost use Rattle.minimal.specs.Covers.{single, counts};
 ghost use Rattle.minimal.specs.Moves.{below, hits, Open, Moved};
-ghost use Rattle.minimal.specs.Sizes.{Shape, Tame, Past, Counting, Begun, Left};
+ghost use Rattle.minimal.specs.Sizes.{Shape, Tame, Counting, Begun, Left};
 
 // Counts up the cover of place i, where it has a point of size n: the plane's pixels moved from a to i.
 fn count_at(
     w: usize,
     h: usize,
     r: usize,
-    above: usize,
-    under: usize,
+    band: Band,
     a: usize,
     n: usize,
     i: usize,
@@ -30,23 +32,12 @@ fn count_at(
     plane: &[u8],
     counters: &mut [u16],
 )
-    requires { ⌜ Banded w h r above under (now plane) × (i < length (now labels)) × (i < 2 ^ 30) × (n < 2 ^ 30) × (getD (now labels) i 0 ≡ n + 1 → Open true (below (w * h) (inkAt w h (now plane))) i a (now counters)) ⌝ }
+    requires { ⌜ Banded w h r band (now plane) × (i < length (now labels)) × (i < 2 ^ 30) × (n < 2 ^ 30) × (getD (now labels) i 0 ≡ n + 1 → Open true (below (w * h) (inkAt w h (now plane))) i a (now counters)) ⌝ }
     ensures { λ _. ⌜ Moved true (λ x. eqb (getD (now (labels .entry)) i 0) (n + 1) && hits (below (w * h) (inkAt w h (now (plane .entry)))) i a x) (now (counters .entry)) (now (counters .exit)) ⌝ }
 {
     if labels[i] as usize == n + 1 {
-        covers::move_cover(true, plane, w, h, r, above, under, a, i, counters);
+        covers::move_cover(true, plane, w, h, r, band, a, i, counters);
     }
-}
-
-// A place past all points of size n: the first, where there is none.
-pub fn end_of(labels: &[u8], n: usize) -> usize
-    requires { ⌜ n < 255 ⌝ }
-    ensures { λ e. ⌜ (e ≤ length (now (labels .entry))) × Past n e (now (labels .entry)) ⌝ }
-{
-    if labels::points::has_label(labels, (n + 1) as u8) {
-        return labels.len();
-    }
-    0
 }
 
 // Counts up the covers of all points of size n, and dilates the plane to the next size.
@@ -66,13 +57,12 @@ fn count_size(
     ensures counters { λ _. ⌜ Counting w h (offsets element) (now (labels .entry)) (n + 1) 0 (now (counters .exit)) ⌝ }
     ensures work { λ _. ⌜ First w h p (clip w h (dilate (offsets element) (imageSet w h (now (work .entry))))) (now (work .entry)) (now (work .exit)) ⌝ }
 {
-    let above = covers::blank_above(&work[..p], h, r);
-    let under = covers::blank_under(&work[..p], h, r, above);
-    let end = end_of(labels, n);
-    let mut i: usize = 0;
-    while i < end {
-        count_at(w, h, r, above, under, a, n, i, labels, &work[..p], counters);
-        i = i + 1;
+    let band = bands::band_of(&work[..p], h, r);
+    let v = (n + 1) as u8;
+    let mut i = places::next_place(labels, v, 0);
+    while i < labels.len() {
+        count_at(w, h, r, band, a, n, i, labels, &work[..p], counters);
+        i = places::next_place(labels, v, i + 1);
     }
     steps::dilate_step(w, h, r, p, element, work);
 }
@@ -88,29 +78,13 @@ pub fn mark(w: usize, h: usize, r: usize, a: usize, work: &mut [u8])
     work[a / w * r + x / 8] = 128u8 >> ((x % 8) as u32);
 }
 
-// The place of the larger of two labels.
-fn taller(labels: &[u8], a: usize, i: usize) -> usize
-    requires { ⌜ (a < length (now labels)) × (i < length (now labels)) ⌝ }
-    ensures { λ b. ⌜ (b < length (now (labels .entry))) × (getD (now (labels .entry)) b 0 ≡ max (getD (now (labels .entry)) a 0) (getD (now (labels .entry)) i 0)) ⌝ }
-{
-    if labels[a] < labels[i] {
-        return i;
-    }
-    a
-}
-
-// A place of the largest label.
+// The first place of the largest label.
 pub fn tallest(labels: &[u8]) -> usize
     requires { ⌜ 0 < length (now labels) ⌝ }
     ensures { λ a. ⌜ (a < length (now (labels .entry))) × (getD (now (labels .entry)) a 0 ≡ greatest (now (labels .entry))) ⌝ }
 {
-    let mut a: usize = 0;
-    let mut i: usize = 0;
-    while i < labels.len() {
-        a = taller(labels, a, i);
-        i = i + 1;
-    }
-    a
+    let top = labels::points::greatest(labels);
+    places::next_place(labels, top, 0)
 }
 
 // Each counter becomes 0.

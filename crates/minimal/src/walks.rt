@@ -1,4 +1,7 @@
+use crate::bands;
+use crate::bands::Band;
 use crate::covers;
+use crate::places;
 use crate::sizes;
 ghost use mathlib.Core.Path.{_≡_};
 ghost use Prim.Native.Nat.{_+_, _*_, _<_, _≤_, _^_};
@@ -19,8 +22,7 @@ fn step(
     w: usize,
     h: usize,
     r: usize,
-    above: usize,
-    under: usize,
+    band: Band,
     a: usize,
     n: usize,
     i: usize,
@@ -28,17 +30,17 @@ fn step(
     plane: &[u8],
     counters: &mut [u16],
 )
-    requires { ⌜ Banded w h r above under (now plane) × (i < length (now labels)) × (i < 2 ^ 30) × (n < 2 ^ 30) × (getD (now labels) i 0 ≡ n + 1 → Within (below (w * h) (inkAt w h (now plane))) i a (length (now counters))) ⌝ }
+    requires { ⌜ Banded w h r band (now plane) × (i < length (now labels)) × (i < 2 ^ 30) × (n < 2 ^ 30) × (getD (now labels) i 0 ≡ n + 1 → Within (below (w * h) (inkAt w h (now plane))) i a (length (now counters))) ⌝ }
     ensures { λ _. ⌜ Stepped w h n a i (now (plane .entry)) (now (labels .entry)) (now (counters .entry)) (now (labels .exit)) (now (counters .exit)) ⌝ }
 {
     if labels[i] as usize != n + 1 {
         return;
     }
-    if !covers::is_twice(plane, w, h, r, above, under, a, i, &counters[..]) {
+    if !covers::is_twice(plane, w, h, r, band, a, i, &counters[..]) {
         return;
     }
     labels[i] = 0;
-    covers::move_cover(false, plane, w, h, r, above, under, a, i, counters);
+    covers::move_cover(false, plane, w, h, r, band, a, i, counters);
 }
 
 // Walks the points of size n, place by place, and dilates the plane to the next size.
@@ -58,13 +60,12 @@ fn walk_size(
     ensures walk { λ _. ⌜ Walked w h (offsets element) n (now (labels .entry)) (now (labels .exit)) (now (counters .exit)) ⌝ }
     ensures work { λ _. ⌜ First w h p (clip w h (dilate (offsets element) (imageSet w h (now (work .entry))))) (now (work .entry)) (now (work .exit)) ⌝ }
 {
-    let above = covers::blank_above(&work[..p], h, r);
-    let under = covers::blank_under(&work[..p], h, r, above);
-    let end = sizes::end_of(&labels[..], n);
-    let mut i: usize = 0;
-    while i < end {
-        step(w, h, r, above, under, a, n, i, labels, &work[..p], counters);
-        i = i + 1;
+    let band = bands::band_of(&work[..p], h, r);
+    let v = (n + 1) as u8;
+    let mut i = places::next_place(&labels[..], v, 0);
+    while i < labels.len() {
+        step(w, h, r, band, a, n, i, labels, &work[..p], counters);
+        i = places::next_place(&labels[..], v, i + 1);
     }
     steps::dilate_step(w, h, r, p, element, work);
 }

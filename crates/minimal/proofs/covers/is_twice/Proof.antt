@@ -6,62 +6,62 @@ use borrow.Author.Tests.{not-false, not-true}
 use denote.Ref.{now}
 use Rattle.minimal.specs.Bands.{inkAt}
 use Rattle.minimal.specs.Moves.{Twice, below}
-use Rattle.minimal.proofs.BandLaws.{band-twice-last, band-twice-more, band-twice-part, band-twice-start, band-within, room}
+use Rattle.minimal.proofs.BandLaws.{band-twice-last, band-twice-more, band-twice-part, band-twice-start, band-within, margins, room}
 use Rattle.minimal.proofs.MoveLaws.{tells-no, tells-yes}
 use Rattle.minimal.proofs.covers.is_twice.Statement.{statement}
 use Rattle.minimal.proofs.covers.is_twice.Tie as tie
 
 abbrev Inv-loop : tie.InvT-loop
-Inv-loop plane w h r above under a i counters end y₀ y = (above ≤ y) × (y ≤ h - under) × (end ≡ h - under) × Twice (below (y * w) (inkAt w h plane)) i a counters
+Inv-loop plane w h r band a i counters end y₀ y = (band .above ≤ y) × (y ≤ h - band .under) × (end ≡ h - band .under) × Twice (below (y * w) (inkAt w h plane)) i a counters
 
 abbrev μ-loop : tie.MeasureT-loop
-μ-loop plane w h r above under a i counters end y₀ y = end - y
+μ-loop plane w h r band a i counters end y₀ y = end - y
 
 sub-end : tie.Need-sub-end Inv-loop μ-loop
-sub-end c = omega (arith, c .before .before .pre .0 .rows)
+sub-end c = omega (arith, c .before .before .before .pre .0 .bounds .rows)
 
 loop-holds : tie.Need-loop-holds Inv-loop μ-loop
 loop-holds c =
-    let s = c .before .before in
+    let s = c .before .before .before in
     let a = s .args in
-    (omega arith, omega (arith, s .pre .0 .rows), refl, band-twice-start (a .w) (a .h) (a .r) (a .above) (a .under) (now (a .plane)) (s .pre .0) (a .a) (a .i) (now (a .counters)))
+    (omega arith, omega (arith, s .pre .0 .bounds .rows), refl, band-twice-start (a .w) (a .h) (a .r) (a .band) (now (a .plane)) (s .pre .0) (a .a) (a .i) (now (a .counters)))
 
 mul-row-is-twice : tie.Need-mul-row-is-twice Inv-loop μ-loop
 mul-row-is-twice c =
-    let s = c .before .before .before .before in
+    let s = c .before .before .before .before .before in
     let a = s .args in
-    let t = room (a .w) (a .h) (a .r) (a .above) (a .under) (now (a .plane)) (s .pre .0) (c .before .loop .y) (omega (arith, c .before .loop .inv .2, c .loop-test .taken)) in
+    let t = room (a .w) (a .h) (a .r) (a .band) (now (a .plane)) (s .pre .0) (c .before .loop .y) (omega (arith, c .before .loop .inv .2, c .loop-test .taken)) in
     omega (arith, t .row)
 
 mul-row-is-twice-2 : tie.Need-mul-row-is-twice-2 Inv-loop μ-loop
 mul-row-is-twice-2 c =
-    let s = c .before .before .before .before in
+    let s = c .before .before .before .before .before in
     let a = s .args in
-    let t = room (a .w) (a .h) (a .r) (a .above) (a .under) (now (a .plane)) (s .pre .0) (c .before .loop .y) (omega (arith, c .before .loop .inv .2, c .loop-test .taken)) in
+    let t = room (a .w) (a .h) (a .r) (a .band) (now (a .plane)) (s .pre .0) (c .before .loop .y) (omega (arith, c .before .loop .inv .2, c .loop-test .taken)) in
     omega (arith, t .small)
 
 add-row-is-twice : tie.Need-add-row-is-twice Inv-loop μ-loop
 add-row-is-twice c =
-    let s = c .before .before .before .before in
+    let s = c .before .before .before .before .before in
     let a = s .args in
-    let t = room (a .w) (a .h) (a .r) (a .above) (a .under) (now (a .plane)) (s .pre .0) (c .before .loop .y) (omega (arith, c .before .loop .inv .2, c .loop-test .taken)) in
+    let t = room (a .w) (a .h) (a .r) (a .band) (now (a .plane)) (s .pre .0) (c .before .loop .y) (omega (arith, c .before .loop .inv .2, c .loop-test .taken)) in
     omega (arith, t .small, s .pre .1)
 
 row-is-twice-requires : tie.Need-row-is-twice-requires Inv-loop μ-loop
 row-is-twice-requires c κs =
-    let s = c .before .before .before .before in
+    let s = c .before .before .before .before .before in
     let a = s .args in
     let l = c .before .loop in
-    let h : l .y < a .h - a .under = omega (arith, l .inv .2, c .loop-test .taken) in
-    let t = room (a .w) (a .h) (a .r) (a .above) (a .under) (now (a .plane)) (s .pre .0) (l .y) h in
-    (omega (arith, t .small, s .pre .1), t .narrow, t .row, band-within (a .w) (a .h) (a .r) (a .above) (a .under) (now (a .plane)) (s .pre .0) (a .a) (a .i) (now (a .counters)) (l .y) h (s .pre .2))
+    let h : l .y < a .h - a .band .under = omega (arith, l .inv .2, c .loop-test .taken) in
+    let t = room (a .w) (a .h) (a .r) (a .band) (now (a .plane)) (s .pre .0) (l .y) h in
+    (omega (arith, t .small, s .pre .1), t .narrow, t .row, margins (a .w) (a .h) (a .r) (a .band) (now (a .plane)) (s .pre .0) (l .y) (l .inv .0) h, band-within (a .w) (a .h) (a .r) (a .band) (now (a .plane)) (s .pre .0) (a .a) (a .i) (now (a .counters)) (l .y) h (s .pre .2))
 
 returns : tie.Need-returns Inv-loop μ-loop
 returns c =
-    let s = c .before .before .before .before .before .before in
+    let s = c .before .before .before .before .before .before .before in
     let a = s .args in
     let l = c .before .before .before .loop in
-    tells-no (λ p. c .before .row-is-twice .ensures .no (not-true _ (c .if1 .taken)) (band-twice-part (a .w) (a .h) (a .r) (a .above) (a .under) (now (a .plane)) (s .pre .0) (a .a) (a .i) (now (a .counters)) (l .y) (omega (arith, l .inv .2, c .before .before .loop-test .taken)) p))
+    tells-no (λ p. c .before .row-is-twice .ensures .no (not-true _ (c .if1 .taken)) (band-twice-part (a .w) (a .h) (a .r) (a .band) (now (a .plane)) (s .pre .0) (a .a) (a .i) (now (a .counters)) (l .y) (omega (arith, l .inv .2, c .before .before .loop-test .taken)) p))
 
 add-y : tie.Need-add-y Inv-loop μ-loop
 add-y c = omega (arith, c .before .before .loop-test .taken)
@@ -71,22 +71,22 @@ loop-less c = omega (arith, c .before .before .loop-test .taken)
 
 loop-again : tie.Need-loop-again Inv-loop μ-loop
 loop-again c =
-    let s = c .before .before .before .before .before .before in
+    let s = c .before .before .before .before .before .before .before in
     let a = s .args in
     let l = c .before .before .before .loop in
     let t = c .before .before .loop-test .taken in (
       omega (arith, l .inv .0),
       omega (arith, l .inv .2, t),
       l .inv .2,
-      band-twice-more (a .w) (a .h) (a .r) (a .above) (a .under) (now (a .plane)) (s .pre .0) (a .a) (a .i) (now (a .counters)) (l .y) (omega (arith, l .inv .2, t)) (l .inv .3) (c .before .row-is-twice .ensures .yes (not-false _ (c .if1 .left))),
+      band-twice-more (a .w) (a .h) (a .r) (a .band) (now (a .plane)) (s .pre .0) (a .a) (a .i) (now (a .counters)) (l .y) (omega (arith, l .inv .2, t)) (l .inv .3) (c .before .row-is-twice .ensures .yes (not-false _ (c .if1 .left))),
     )
 
 returns-2 : tie.Need-returns-2 Inv-loop μ-loop
 returns-2 c =
-    let s = c .before .before .before .before in
+    let s = c .before .before .before .before .before in
     let a = s .args in
     let l = c .before .loop in
-    tells-yes (band-twice-last (a .w) (a .h) (a .r) (a .above) (a .under) (now (a .plane)) (s .pre .0) (a .a) (a .i) (now (a .counters)) (l .y) (omega (arith, l .inv .1, l .inv .2, c .loop-test .left)) (l .inv .3))
+    tells-yes (band-twice-last (a .w) (a .h) (a .r) (a .band) (now (a .plane)) (s .pre .0) (a .a) (a .i) (now (a .counters)) (l .y) (omega (arith, l .inv .1, l .inv .2, c .loop-test .left)) (l .inv .3))
 
 pub is-twice-spec : {M : Type 1} → statement M
 is-twice-spec =

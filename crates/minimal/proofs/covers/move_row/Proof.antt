@@ -1,5 +1,6 @@
 -- `minimal::covers::move_row` meets its contract.
 use mathlib.Core.Bool.{Bool}
+use mathlib.Core.Path.{fun-ext, subst}
 use Prim.Native.Nat.{_*_, _+_, _-_, _≤_, ℕ}
 use native.Mathlib.Omega.{arith}
 use denote.Ref.{now}
@@ -7,31 +8,35 @@ use lib.ListN.{getD}
 use Rattle.morphology.specs.Image.{bitOf}
 use Rattle.raster.specs.Rows.{rowBit}
 use Rattle.minimal.specs.Moves.{Moved, below, hits}
-use Rattle.minimal.proofs.MoveLaws.{moved-end, moved-more, moved-start, open-part}
-use Rattle.minimal.proofs.PixelLaws.{byte-of}
+use Rattle.minimal.proofs.MoveLaws.{moved-end, moved-more, moved-none, open-part}
+use Rattle.minimal.proofs.PixelLaws.{byte-of, margin-end, margin-start}
 use Rattle.minimal.proofs.covers.move_row.Statement.{statement}
 use Rattle.minimal.proofs.covers.move_row.Tie as tie
 
 abbrev Inv-loop : tie.InvT-loop
-Inv-loop up plane d r at a counters₀ j₀ counters j = (j ≤ r) × Moved up (hits (below (8 * j) (λ k. rowBit plane (8 * d + k))) at a) counters₀ counters
+Inv-loop up plane d r left right at a counters₀ j₀ counters j = (j ≤ right) × Moved up (hits (below (8 * j) (λ k. rowBit plane (8 * d + k))) at a) counters₀ counters
 
 abbrev μ-loop : tie.MeasureT-loop
-μ-loop up plane d r at a counters₀ j₀ counters j = r - j
+μ-loop up plane d r left right at a counters₀ j₀ counters j = right - j
 
 loop-holds : tie.Need-loop-holds Inv-loop μ-loop
-loop-holds c = let a = c .before .before .args in (omega arith, moved-start (a .up) (λ k. rowBit (now (a .plane)) (8 * a .d + k)) (a .at) (a .a) (now (a .counters)))
+loop-holds c =
+    let s = c .before .before in
+    let a = s .args in
+    let F : ℕ → Bool = λ k. rowBit (now (a .plane)) (8 * a .d + k) in
+    (s .pre .3 .order, moved-none (a .up) (below (8 * a .left) F) (a .at) (a .a) (now (a .counters)) (margin-start (now (a .plane)) (a .d) (a .r) (a .left) (a .right) (s .pre .3)))
 
 add-move-byte : tie.Need-add-move-byte Inv-loop μ-loop
-add-move-byte c = omega (arith, c .before .before .before .before .pre .2)
+add-move-byte c = let s = c .before .before .before .before in omega (arith, s .pre .2, s .pre .3 .room, c .loop-test .taken)
 
 shared-slice-read-move-byte : tie.Need-shared-slice-read-move-byte Inv-loop μ-loop
-shared-slice-read-move-byte c = omega (arith, c .before .before .before .before .before .pre .2)
+shared-slice-read-move-byte c = let s = c .before .before .before .before .before in omega (arith, s .pre .2, s .pre .3 .room)
 
 mul-move-byte : tie.Need-mul-move-byte Inv-loop μ-loop
-mul-move-byte c = omega (arith, c .before .before .before .before .before .pre .1)
+mul-move-byte c = let s = c .before .before .before .before .before in omega (arith, s .pre .1, s .pre .3 .room)
 
 add-move-byte-2 : tie.Need-add-move-byte-2 Inv-loop μ-loop
-add-move-byte-2 c = let s = c .before .before .before .before .before in omega (arith, s .pre .0, s .pre .1)
+add-move-byte-2 c = let s = c .before .before .before .before .before in omega (arith, s .pre .0, s .pre .1, s .pre .3 .room)
 
 move-byte-requires : tie.Need-move-byte-requires Inv-loop μ-loop
 move-byte-requires c κs =
@@ -39,8 +44,8 @@ move-byte-requires c κs =
     let a = s .args in
     let l = c .before .before .before .loop in
     let F : ℕ → Bool = λ k. rowBit (now (a .plane)) (8 * a .d + k) in (
-      omega (arith, s .pre .0, s .pre .1, c .before .before .loop-test .taken),
-      open-part F (bitOf (getD (now (a .plane)) (a .d + l .j) 0)) (a .at) (8 * l .j) 8 (a .a) (byte-of (now (a .plane)) (a .d) (l .j)) (a .up) (8 * a .r) (now (a .counters)) (l .counters) (omega (arith, c .before .before .loop-test .taken)) (s .pre .3) (l .inv .1),
+      omega (arith, s .pre .0, s .pre .1, s .pre .3 .room, c .before .before .loop-test .taken),
+      open-part F (bitOf (getD (now (a .plane)) (a .d + l .j) 0)) (a .at) (8 * l .j) 8 (a .a) (byte-of (now (a .plane)) (a .d) (l .j)) (a .up) (8 * a .r) (now (a .counters)) (l .counters) (omega (arith, s .pre .3 .room, c .before .before .loop-test .taken)) (s .pre .4) (l .inv .1),
     )
 
 add-j : tie.Need-add-j Inv-loop μ-loop
@@ -64,9 +69,12 @@ same-length c = c .before .loop .inv .1 .size
 
 returns : tie.Need-returns Inv-loop μ-loop
 returns c =
-    let a = c .before .before .before .before .args in
+    let s = c .before .before .before .before in
+    let a = s .args in
     let l = c .before .loop in
-    moved-end (a .up) (λ k. rowBit (now (a .plane)) (8 * a .d + k)) (a .at) (a .a) (8 * l .j) (8 * a .r) (now (a .counters)) (l .counters) (omega (arith, l .inv .0, c .loop-test .left)) (l .inv .1)
+    let F : ℕ → Bool = λ k. rowBit (now (a .plane)) (8 * a .d + k) in
+    subst (λ (f : ℕ → Bool). Moved (a .up) (hits f (a .at) (a .a)) (now (a .counters)) (l .counters)) (fun-ext (margin-end (now (a .plane)) (a .d) (a .r) (a .left) (a .right) (s .pre .3)))
+    (moved-end (a .up) F (a .at) (a .a) (8 * l .j) (8 * a .right) (now (a .counters)) (l .counters) (omega (arith, l .inv .0, c .loop-test .left)) (l .inv .1))
 
 pub move-row-spec : {M : Type 1} → statement M
 move-row-spec =

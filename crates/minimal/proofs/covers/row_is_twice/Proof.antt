@@ -1,6 +1,6 @@
 -- `minimal::covers::row_is_twice` meets its contract.
 use mathlib.Core.Bool.{Bool}
-use mathlib.Core.Path.{subst}
+use mathlib.Core.Path.{fun-ext, subst}
 use Prim.Native.Nat.{_*_, _+_, _-_, _≤_, ℕ}
 use native.Mathlib.Omega.{arith}
 use borrow.Author.Tests.{not-false, not-true}
@@ -9,31 +9,35 @@ use lib.ListN.{getD, length}
 use Rattle.morphology.specs.Image.{bitOf}
 use Rattle.raster.specs.Rows.{rowBit}
 use Rattle.minimal.specs.Moves.{Twice, below}
-use Rattle.minimal.proofs.MoveLaws.{tells-no, tells-yes, twice-end, twice-more, twice-part, twice-start, within-part}
-use Rattle.minimal.proofs.PixelLaws.{byte-of}
+use Rattle.minimal.proofs.MoveLaws.{tells-no, tells-yes, twice-end, twice-more, twice-none, twice-part, within-part}
+use Rattle.minimal.proofs.PixelLaws.{byte-of, margin-end, margin-start}
 use Rattle.minimal.proofs.covers.row_is_twice.Statement.{statement}
 use Rattle.minimal.proofs.covers.row_is_twice.Tie as tie
 
 abbrev Inv-loop : tie.InvT-loop
-Inv-loop plane d r at a counters j₀ j = (j ≤ r) × Twice (below (8 * j) (λ k. rowBit plane (8 * d + k))) at a counters
+Inv-loop plane d r left right at a counters j₀ j = (j ≤ right) × Twice (below (8 * j) (λ k. rowBit plane (8 * d + k))) at a counters
 
 abbrev μ-loop : tie.MeasureT-loop
-μ-loop plane d r at a counters j₀ j = r - j
+μ-loop plane d r left right at a counters j₀ j = right - j
 
 loop-holds : tie.Need-loop-holds Inv-loop μ-loop
-loop-holds c = let a = c .before .before .args in (omega arith, twice-start (λ k. rowBit (now (a .plane)) (8 * a .d + k)) (a .at) (a .a) (now (a .counters)))
+loop-holds c =
+    let s = c .before .before in
+    let a = s .args in
+    let F : ℕ → Bool = λ k. rowBit (now (a .plane)) (8 * a .d + k) in
+    (s .pre .3 .order, twice-none (below (8 * a .left) F) (a .at) (a .a) (now (a .counters)) (margin-start (now (a .plane)) (a .d) (a .r) (a .left) (a .right) (s .pre .3)))
 
 add-byte-is-twice : tie.Need-add-byte-is-twice Inv-loop μ-loop
-add-byte-is-twice c = omega (arith, c .before .before .before .before .pre .2)
+add-byte-is-twice c = let s = c .before .before .before .before in omega (arith, s .pre .2, s .pre .3 .room, c .loop-test .taken)
 
 shared-slice-read-byte-is-twice : tie.Need-shared-slice-read-byte-is-twice Inv-loop μ-loop
-shared-slice-read-byte-is-twice c = omega (arith, c .before .before .before .before .before .pre .2)
+shared-slice-read-byte-is-twice c = let s = c .before .before .before .before .before in omega (arith, s .pre .2, s .pre .3 .room)
 
 mul-byte-is-twice : tie.Need-mul-byte-is-twice Inv-loop μ-loop
-mul-byte-is-twice c = omega (arith, c .before .before .before .before .before .pre .1)
+mul-byte-is-twice c = let s = c .before .before .before .before .before in omega (arith, s .pre .1, s .pre .3 .room)
 
 add-byte-is-twice-2 : tie.Need-add-byte-is-twice-2 Inv-loop μ-loop
-add-byte-is-twice-2 c = let s = c .before .before .before .before .before in omega (arith, s .pre .0, s .pre .1)
+add-byte-is-twice-2 c = let s = c .before .before .before .before .before in omega (arith, s .pre .0, s .pre .1, s .pre .3 .room)
 
 byte-is-twice-requires : tie.Need-byte-is-twice-requires Inv-loop μ-loop
 byte-is-twice-requires c κs =
@@ -41,16 +45,17 @@ byte-is-twice-requires c κs =
     let a = s .args in
     let l = c .before .before .loop in
     let F : ℕ → Bool = λ k. rowBit (now (a .plane)) (8 * a .d + k) in (
-      omega (arith, s .pre .0, s .pre .1, c .before .loop-test .taken),
-      within-part F (bitOf (getD (now (a .plane)) (a .d + l .j) 0)) (a .at) (8 * l .j) 8 (a .a) (byte-of (now (a .plane)) (a .d) (l .j)) (8 * a .r) (length (now (a .counters))) (omega (arith, c .before .loop-test .taken)) (s .pre .3),
+      omega (arith, s .pre .0, s .pre .1, s .pre .3 .room, c .before .loop-test .taken),
+      within-part F (bitOf (getD (now (a .plane)) (a .d + l .j) 0)) (a .at) (8 * l .j) 8 (a .a) (byte-of (now (a .plane)) (a .d) (l .j)) (8 * a .r) (length (now (a .counters))) (omega (arith, s .pre .3 .room, c .before .loop-test .taken)) (s .pre .4),
     )
 
 returns : tie.Need-returns Inv-loop μ-loop
 returns c =
-    let a = c .before .before .before .before .before .before .before .args in
+    let s = c .before .before .before .before .before .before .before in
+    let a = s .args in
     let l = c .before .before .before .before .loop in
     let F : ℕ → Bool = λ k. rowBit (now (a .plane)) (8 * a .d + k) in
-    tells-no (λ p. c .before .byte-is-twice .ensures .no (not-true _ (c .if1 .taken)) (twice-part F (bitOf (getD (now (a .plane)) (a .d + l .j) 0)) (a .at) (8 * l .j) 8 (a .a) (byte-of (now (a .plane)) (a .d) (l .j)) (8 * a .r) (now (a .counters)) (omega (arith, c .before .before .before .loop-test .taken)) p))
+    tells-no (λ p. c .before .byte-is-twice .ensures .no (not-true _ (c .if1 .taken)) (twice-part F (bitOf (getD (now (a .plane)) (a .d + l .j) 0)) (a .at) (8 * l .j) 8 (a .a) (byte-of (now (a .plane)) (a .d) (l .j)) (8 * a .r) (now (a .counters)) (omega (arith, s .pre .3 .room, c .before .before .before .loop-test .taken)) p))
 
 add-j : tie.Need-add-j Inv-loop μ-loop
 add-j c = omega (arith, c .before .before .before .loop-test .taken)
@@ -70,9 +75,13 @@ loop-again c =
 
 returns-2 : tie.Need-returns-2 Inv-loop μ-loop
 returns-2 c =
-    let a = c .before .before .before .before .args in
+    let s = c .before .before .before .before in
+    let a = s .args in
     let l = c .before .loop in
-    tells-yes (twice-end (λ k. rowBit (now (a .plane)) (8 * a .d + k)) (a .at) (a .a) (8 * l .j) (8 * a .r) (now (a .counters)) (omega (arith, l .inv .0, c .loop-test .left)) (l .inv .1))
+    let F : ℕ → Bool = λ k. rowBit (now (a .plane)) (8 * a .d + k) in
+    tells-yes
+    (subst (λ (f : ℕ → Bool). Twice f (a .at) (a .a) (now (a .counters))) (fun-ext (margin-end (now (a .plane)) (a .d) (a .r) (a .left) (a .right) (s .pre .3)))
+    (twice-end F (a .at) (a .a) (8 * l .j) (8 * a .right) (now (a .counters)) (omega (arith, l .inv .0, c .loop-test .left)) (l .inv .1)))
 
 pub row-is-twice-spec : {M : Type 1} → statement M
 row-is-twice-spec =

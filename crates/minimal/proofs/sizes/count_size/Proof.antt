@@ -1,5 +1,5 @@
 -- `minimal::sizes::count_size` meets its contract.
-use mathlib.Core.Path.{_∙_, _≡_, subst, sym}
+use mathlib.Core.Path.{_∙_, _≡_, refl, subst, sym}
 use Prim.Native.Nat.{_*_, _+_, _-_, _<_, _≤_, ℕ}
 use native.Mathlib.Omega.{arith}
 use borrow.Author.Needs.{needs}
@@ -7,114 +7,109 @@ use denote.Ref.{now}
 use lib.ListN.{length, take}
 use Rattle.morphology.specs.Element.{offsets}
 use Rattle.minimal.specs.Bands.{Banded}
-use Rattle.minimal.specs.Sizes.{Counting, Past}
-use Rattle.minimal.proofs.CountingLaws.{counting-length, counting-next, counting-open, counting-size}
+use Rattle.minimal.specs.Sizes.{Counting, Without}
+use Rattle.minimal.proofs.CountingLaws.{counting-gap, counting-length, counting-next, counting-open, counting-size}
 use Rattle.minimal.proofs.SizeLaws.{plane-banded, plane-rows, plane-size}
 use Rattle.minimal.proofs.sizes.count_size.Statement.{statement}
 use Rattle.minimal.proofs.sizes.count_size.Tie as tie
 
 abbrev Inv-loop : tie.InvT-loop
-Inv-loop w h r p element a n labels work counters₀ above under end i₀ counters i =
-    (i ≤ end) × (end ≤ length labels) × Past n end labels × Banded w h r above under (take p work) × Counting w h (offsets element) labels n i counters
+Inv-loop w h r p element a n labels work counters₀ band v i₀ counters i =
+    (v ≡ n + 1) × (i ≤ length labels) × Banded w h r band (take p work) × Counting w h (offsets element) labels n i counters
 
 abbrev μ-loop : tie.MeasureT-loop
-μ-loop w h r p element a n labels work counters₀ above under end i₀ counters i = end - i
+μ-loop w h r p element a n labels work counters₀ band v i₀ counters i = length labels - i
 
-slice-reshare-prefix-blank-above : tie.Need-slice-reshare-prefix-blank-above Inv-loop μ-loop
-slice-reshare-prefix-blank-above c = let s = c .before .before .before in omega (arith, s .pre .0 .planes)
+slice-reshare-prefix-band-of : tie.Need-slice-reshare-prefix-band-of Inv-loop μ-loop
+slice-reshare-prefix-band-of c = let s = c .before .before .before in omega (arith, s .pre .0 .planes)
 
-slice-aggregate-blank-above : tie.Need-slice-aggregate-blank-above Inv-loop μ-loop
-slice-aggregate-blank-above c =
+slice-aggregate-band-of : tie.Need-slice-aggregate-band-of Inv-loop μ-loop
+slice-aggregate-band-of c =
     let s = c .before .before .before .before in
     let a = s .args in
     sym (plane-size (a .w) (a .h) (a .r) (a .p) (offsets (a .element)) (a .n) (a .a) (now (a .work)) (s .pre .0))
 
-blank-above-requires : tie.Need-blank-above-requires Inv-loop μ-loop
-blank-above-requires c κs =
+band-of-requires : tie.Need-band-of-requires Inv-loop μ-loop
+band-of-requires c κs =
     let s = c .before .before .before .before in
     let a = s .args in
     plane-rows (a .w) (a .h) (a .r) (a .p) (offsets (a .element)) (a .n) (a .a) (now (a .work)) (s .pre .0)
 
-slice-reshare-prefix-blank-under : tie.Need-slice-reshare-prefix-blank-under Inv-loop μ-loop
-slice-reshare-prefix-blank-under c = let s = c .before .before .before .before .before in omega (arith, s .pre .0 .planes)
+add-v : tie.Need-add-v Inv-loop μ-loop
+add-v c = omega (arith, c .before .before .before .before .before .pre .2)
 
-slice-aggregate-blank-under : tie.Need-slice-aggregate-blank-under Inv-loop μ-loop
-slice-aggregate-blank-under c =
-    let s = c .before .before .before .before .before .before in
-    let a = s .args in
-    sym (plane-size (a .w) (a .h) (a .r) (a .p) (offsets (a .element)) (a .n) (a .a) (now (a .work)) (s .pre .0))
+cast-v : tie.Need-cast-v Inv-loop μ-loop
+cast-v c = omega (arith, c .before .before .before .before .before .pre .2)
 
-blank-under-requires : tie.Need-blank-under-requires Inv-loop μ-loop
-blank-under-requires c κs =
-    let s = c .before .before .before .before .before .before in
-    let a = s .args in
-    (plane-rows (a .w) (a .h) (a .r) (a .p) (offsets (a .element)) (a .n) (a .a) (now (a .work)) (s .pre .0), c .before .blank-above .ensures .0)
-
-end-of-requires : tie.Need-end-of-requires Inv-loop μ-loop
-end-of-requires c κs = c .before .before .before .before .before .before .before .pre .2
+next-place-requires : tie.Need-next-place-requires Inv-loop μ-loop
+next-place-requires c κs = omega arith
 
 loop-holds : tie.Need-loop-holds Inv-loop μ-loop
 loop-holds c =
-    let s = c .before .before .before .before .before .before .before .before in
+    let s = c .before .before .before .before .before .before in
     let a = s .args in
-    let t = c .before .before .before .blank-above .ensures in
-    let b = c .before .blank-under .ensures in
-    let e = c .end-of .ensures in
-    (omega arith, e .0, e .1, plane-banded (a .w) (a .h) (a .r) (a .p) (offsets (a .element)) (a .n) (a .a) (now (a .work)) (s .pre .0) _ _ (b .0) (t .1) (b .1), s .pre .3)
+    let b = c .before .band-of .ensures in
+    let e = c .next-place .ensures in
+    (refl, e .1, plane-banded (a .w) (a .h) (a .r) (a .p) (offsets (a .element)) (a .n) (a .a) (now (a .work)) (s .pre .0) _ b, counting-gap (a .w) (a .h) (offsets (a .element)) (now (a .labels)) (a .n) 0 _ (now (a .counters)) (e .0) (e .2) (s .pre .3))
 
 slice-reshare-prefix-count-at : tie.Need-slice-reshare-prefix-count-at Inv-loop μ-loop
-slice-reshare-prefix-count-at c = let s = c .before .before .before .before .before .before .before .before .before .before in omega (arith, s .pre .0 .planes)
+slice-reshare-prefix-count-at c = let s = c .before .before .before .before .before .before .before .before in omega (arith, s .pre .0 .planes)
 
 slice-aggregate-count-at : tie.Need-slice-aggregate-count-at Inv-loop μ-loop
 slice-aggregate-count-at c =
-    let s = c .before .before .before .before .before .before .before .before .before .before .before in
+    let s = c .before .before .before .before .before .before .before .before .before in
     let a = s .args in
     sym (plane-size (a .w) (a .h) (a .r) (a .p) (offsets (a .element)) (a .n) (a .a) (now (a .work)) (s .pre .0))
 
 count-at-requires : tie.Need-count-at-requires Inv-loop μ-loop
 count-at-requires c κs =
-    let s = c .before .before .before .before .before .before .before .before .before .before .before .before in
+    let s = c .before .before .before .before .before .before .before .before .before .before in
     let a = s .args in
     let l = c .before .before .before .loop in
+    let k = c .before .before .loop-test .taken in
     let t = s .pre .1 in
-    let h : l .i < a .w * a .h = omega (arith, t .places, l .inv .1, c .before .before .loop-test .taken) in
-    (l .inv .3, omega (arith, l .inv .1, c .before .before .loop-test .taken), omega (arith, h, t .few), omega (arith, s .pre .2), counting-open (a .w) (a .h) (offsets (a .element)) (now (a .labels)) (a .n) (l .i) (l .counters) (l .inv .4) (a .r) (a .p) (a .a) (now (a .work)) (s .pre .0) t h)
+    let h : l .i < a .w * a .h = omega (arith, t .places, k) in
+    (l .inv .2, k, omega (arith, h, t .few), omega (arith, s .pre .2), counting-open (a .w) (a .h) (offsets (a .element)) (now (a .labels)) (a .n) (l .i) (l .counters) (l .inv .3) (a .r) (a .p) (a .a) (now (a .work)) (s .pre .0) t h)
 
-add-i : tie.Need-add-i Inv-loop μ-loop
-add-i c = omega (arith, c .before .before .before .before .before .loop-test .taken, c .before .before .before .before .before .before .loop .inv .1)
+add-next-place : tie.Need-add-next-place Inv-loop μ-loop
+add-next-place c = omega (arith, c .before .before .before .before .before .loop-test .taken, c .before .before .before .before .before .before .before .before .before .before .before .before .before .pre .1 .places, c .before .before .before .before .before .before .before .before .before .before .before .before .before .pre .1 .few)
+
+next-place-requires-2 : tie.Need-next-place-requires-2 Inv-loop μ-loop
+next-place-requires-2 c κs = omega (arith, c .before .before .before .before .before .loop-test .taken)
 
 loop-less : tie.Need-loop-less Inv-loop μ-loop
-loop-less c = omega (arith, c .before .before .before .before .before .loop-test .taken)
+loop-less c = omega (arith, c .before .before .before .before .before .before .loop-test .taken, c .next-place2 .ensures .0)
 
 loop-again : tie.Need-loop-again Inv-loop μ-loop
 loop-again c =
-    let s = c .before .before .before .before .before .before .before .before .before .before .before .before .before .before .before in
+    let s = c .before .before .before .before .before .before .before .before .before .before .before .before .before .before in
     let a = s .args in
-    let l = c .before .before .before .before .before .before .loop in
+    let l = c .before .before .before .before .before .before .before .loop in
     let t = s .pre .1 in
-    let h : l .i < a .w * a .h = omega (arith, t .places, l .inv .1, c .before .before .before .before .before .loop-test .taken) in
-    (omega (arith, c .before .before .before .before .before .loop-test .taken), l .inv .1, l .inv .2, l .inv .3, counting-next (a .w) (a .h) (offsets (a .element)) (now (a .labels)) (a .n) (l .i) (l .counters) (l .inv .4) (a .r) (a .p) (a .a) (now (a .work)) (s .pre .0) t h _ (c .before .before .count-at .ensures))
+    let h : l .i < a .w * a .h = omega (arith, t .places, c .before .before .before .before .before .before .loop-test .taken) in
+    let e = c .next-place2 .ensures in
+    let q = counting-next (a .w) (a .h) (offsets (a .element)) (now (a .labels)) (a .n) (l .i) (l .counters) (l .inv .3) (a .r) (a .p) (a .a) (now (a .work)) (s .pre .0) t h _ (c .before .before .before .count-at .ensures) in
+    (l .inv .0, e .1, l .inv .2, counting-gap (a .w) (a .h) (offsets (a .element)) (now (a .labels)) (a .n) (l .i + 1) _ _ (e .0) (subst (λ (v : ℕ). Without v (l .i + 1) (c .next-place2 .result) (now (a .labels))) (l .inv .0) (e .2)) q)
 
 dilate-step-requires : tie.Need-dilate-step-requires Inv-loop μ-loop
-dilate-step-requires c κs = let s = c .before .before .before .before .before .before .before .before .before .before .before in (s .pre .0 .sheet, s .pre .0 .planes, s .pre .0 .clean)
+dilate-step-requires c κs = let s = c .before .before .before .before .before .before .before .before .before in (s .pre .0 .sheet, s .pre .0 .planes, s .pre .0 .clean)
 
 same-length : tie.Need-same-length Inv-loop μ-loop
 same-length c = search needs
 
 same-length-2 : tie.Need-same-length-2 Inv-loop μ-loop
 same-length-2 c =
-    let s = c .before .before .before .before .before .before .before .before .before .before .before .before .before .before in
+    let s = c .before .before .before .before .before .before .before .before .before .before .before .before in
     let a = s .args in
     let l = c .before .before .before .before .before .loop in
-    counting-length (a .w) (a .h) (offsets (a .element)) (now (a .labels)) (a .n) (l .i) (l .counters) (l .inv .4) ∙ sym (counting-length (a .w) (a .h) (offsets (a .element)) (now (a .labels)) (a .n) 0 (now (a .counters)) (s .pre .3))
+    counting-length (a .w) (a .h) (offsets (a .element)) (now (a .labels)) (a .n) (l .i) (l .counters) (l .inv .3) ∙ sym (counting-length (a .w) (a .h) (offsets (a .element)) (now (a .labels)) (a .n) 0 (now (a .counters)) (s .pre .3))
 
 returns : tie.Need-returns Inv-loop μ-loop
 returns c =
-    let s = c .before .before .before .before .before .before .before .before .before .before .before .before .before .before in
+    let s = c .before .before .before .before .before .before .before .before .before .before .before .before in
     let a = s .args in
     let l = c .before .before .before .before .before .loop in
-    let e : c .before .before .before .before .before .before .end-of .result ≡ l .i = omega (arith, l .inv .0, c .before .before .before .before .loop-test .left) in
-    (counting-size (a .w) (a .h) (offsets (a .element)) (now (a .labels)) (a .n) (l .i) (l .counters) (subst (λ (k : ℕ). Past (a .n) k (now (a .labels))) e (l .inv .2)) (omega (arith, l .inv .0, l .inv .1, s .pre .1 .places)) (l .inv .4), c .before .before .dilate-step .ensures)
+    (counting-size (a .w) (a .h) (offsets (a .element)) (now (a .labels)) (a .n) (l .i) (l .counters) (omega (arith, l .inv .1, c .before .before .before .before .loop-test .left, s .pre .1 .places)) (l .inv .3), c .before .before .dilate-step .ensures)
 
 pub count-size-spec : {M : Type 1} → statement M
 count-size-spec =
@@ -122,18 +117,18 @@ count-size-spec =
     (tie.spec
     Inv-loop
     μ-loop
-    slice-reshare-prefix-blank-above
-    slice-aggregate-blank-above
-    blank-above-requires
-    slice-reshare-prefix-blank-under
-    slice-aggregate-blank-under
-    blank-under-requires
-    end-of-requires
+    slice-reshare-prefix-band-of
+    slice-aggregate-band-of
+    band-of-requires
+    add-v
+    cast-v
+    next-place-requires
     loop-holds
     slice-reshare-prefix-count-at
     slice-aggregate-count-at
     count-at-requires
-    add-i
+    add-next-place
+    next-place-requires-2
     loop-less
     loop-again
     dilate-step-requires

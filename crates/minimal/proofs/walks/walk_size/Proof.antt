@@ -1,6 +1,6 @@
 -- `minimal::walks::walk_size` meets its contract.
 use mathlib.Core.List.{List}
-use mathlib.Core.Path.{_∙_, _≡_, ap, refl, subst, sym}
+use mathlib.Core.Path.{_∙_, _≡_, ap, refl, sym}
 use Prim.Native.Nat.{_*_, _+_, _-_, _<_, _≤_, ℕ}
 use native.Mathlib.Omega.{arith}
 use borrow.Author.Needs.{needs}
@@ -11,139 +11,141 @@ use Rattle.morphology.specs.Lists.{upTo}
 use Rattle.morphology.specs.Minimal.{dropSize}
 use Rattle.minimal.specs.Bands.{Banded}
 use Rattle.minimal.specs.Covers.{counts}
-use Rattle.minimal.specs.Sizes.{Past}
 use Rattle.minimal.proofs.CoverCountLaws.{counts-length}
 use Rattle.minimal.proofs.SizeLaws.{plane-banded, plane-rows, plane-size}
-use Rattle.minimal.proofs.WalkLaws.{size-begin, size-end, size-more, size-tame, step-next, step-within}
+use Rattle.minimal.proofs.WalkLaws.{size-begin, size-gap, size-more, size-tame, step-next, step-within}
 use Rattle.minimal.proofs.walks.walk_size.Statement.{statement}
 use Rattle.minimal.proofs.walks.walk_size.Tie as tie
 
 abbrev Inv-loop : tie.InvT-loop
-Inv-loop w h r p element a n labels₀ work counters₀ above under end i₀ labels counters i =
-    (i ≤ end) × (end ≤ w * h) × Past n end labels₀ × Banded w h r above under (take p work) × (length labels ≡ length labels₀) × (labels ≡ dropSize w h (offsets element) n (upTo i) labels₀) × (counters ≡ counts w h (offsets element) labels)
+Inv-loop w h r p element a n labels₀ work counters₀ band v i₀ labels counters i =
+    (v ≡ n + 1) × (i ≤ length labels₀) × Banded w h r band (take p work) × (length labels ≡ length labels₀) × (labels ≡ dropSize w h (offsets element) n (upTo i) labels₀) × (counters ≡ counts w h (offsets element) labels)
 
 abbrev μ-loop : tie.MeasureT-loop
-μ-loop w h r p element a n labels₀ work counters₀ above under end i₀ labels counters i = end - i
+μ-loop w h r p element a n labels₀ work counters₀ band v i₀ labels counters i = length labels₀ - i
 
-slice-reshare-prefix-blank-above : tie.Need-slice-reshare-prefix-blank-above Inv-loop μ-loop
-slice-reshare-prefix-blank-above c = let s = c .before .before .before in omega (arith, s .pre .0 .planes)
+slice-reshare-prefix-band-of : tie.Need-slice-reshare-prefix-band-of Inv-loop μ-loop
+slice-reshare-prefix-band-of c = let s = c .before .before .before in omega (arith, s .pre .0 .planes)
 
-slice-aggregate-blank-above : tie.Need-slice-aggregate-blank-above Inv-loop μ-loop
-slice-aggregate-blank-above c =
+slice-aggregate-band-of : tie.Need-slice-aggregate-band-of Inv-loop μ-loop
+slice-aggregate-band-of c =
     let s = c .before .before .before .before in
     let a = s .args in
     sym (plane-size (a .w) (a .h) (a .r) (a .p) (offsets (a .element)) (a .n) (a .a) (now (a .work)) (s .pre .0))
 
-blank-above-requires : tie.Need-blank-above-requires Inv-loop μ-loop
-blank-above-requires c κs =
+band-of-requires : tie.Need-band-of-requires Inv-loop μ-loop
+band-of-requires c κs =
     let s = c .before .before .before .before in
     let a = s .args in
     plane-rows (a .w) (a .h) (a .r) (a .p) (offsets (a .element)) (a .n) (a .a) (now (a .work)) (s .pre .0)
 
-slice-reshare-prefix-blank-under : tie.Need-slice-reshare-prefix-blank-under Inv-loop μ-loop
-slice-reshare-prefix-blank-under c = let s = c .before .before .before .before .before in omega (arith, s .pre .0 .planes)
+add-v : tie.Need-add-v Inv-loop μ-loop
+add-v c = omega (arith, c .before .before .before .before .before .pre .2)
 
-slice-aggregate-blank-under : tie.Need-slice-aggregate-blank-under Inv-loop μ-loop
-slice-aggregate-blank-under c =
-    let s = c .before .before .before .before .before .before in
-    let a = s .args in
-    sym (plane-size (a .w) (a .h) (a .r) (a .p) (offsets (a .element)) (a .n) (a .a) (now (a .work)) (s .pre .0))
+cast-v : tie.Need-cast-v Inv-loop μ-loop
+cast-v c = omega (arith, c .before .before .before .before .before .pre .2)
 
-blank-under-requires : tie.Need-blank-under-requires Inv-loop μ-loop
-blank-under-requires c κs =
-    let s = c .before .before .before .before .before .before in
-    let a = s .args in
-    (plane-rows (a .w) (a .h) (a .r) (a .p) (offsets (a .element)) (a .n) (a .a) (now (a .work)) (s .pre .0), c .before .blank-above .ensures .0)
-
-end-of-requires : tie.Need-end-of-requires Inv-loop μ-loop
-end-of-requires c κs = c .before .before .before .before .before .before .before .before .pre .2
+next-place-requires : tie.Need-next-place-requires Inv-loop μ-loop
+next-place-requires c κs = omega arith
 
 loop-holds : tie.Need-loop-holds Inv-loop μ-loop
 loop-holds c =
-    let s = c .before .before .before .before .before .before .before .before .before in
+    let s = c .before .before .before .before .before .before .before in
     let a = s .args in
-    let t = c .before .before .before .before .blank-above .ensures in
-    let b = c .before .before .blank-under .ensures in
-    let e = c .end-of .ensures in (
-      omega arith,
-      omega (arith, e .0, s .pre .1 .places),
-      e .1,
-      plane-banded (a .w) (a .h) (a .r) (a .p) (offsets (a .element)) (a .n) (a .a) (now (a .work)) (s .pre .0) _ _ (b .0) (t .1) (b .1),
+    let b = c .before .before .band-of .ensures in
+    let e = c .next-place .ensures in (
       refl,
-      size-begin (a .w) (a .h) (offsets (a .element)) (a .n) (now (a .labels)),
+      e .1,
+      plane-banded (a .w) (a .h) (a .r) (a .p) (offsets (a .element)) (a .n) (a .a) (now (a .work)) (s .pre .0) _ b,
+      refl,
+      size-gap (a .w) (a .h) (offsets (a .element)) (a .n) (now (a .labels)) 0 _ (now (a .labels)) (e .0) (e .2) (size-begin (a .w) (a .h) (offsets (a .element)) (a .n) (now (a .labels))),
       s .pre .3,
     )
 
 slice-reshare-prefix-step : tie.Need-slice-reshare-prefix-step Inv-loop μ-loop
-slice-reshare-prefix-step c = let s = c .before .before .before .before .before .before .before .before .before .before .before .before in omega (arith, s .pre .0 .planes)
+slice-reshare-prefix-step c = let s = c .before .before .before .before .before .before .before .before .before .before in omega (arith, s .pre .0 .planes)
 
 slice-aggregate-step : tie.Need-slice-aggregate-step Inv-loop μ-loop
 slice-aggregate-step c =
-    let s = c .before .before .before .before .before .before .before .before .before .before .before .before .before in
+    let s = c .before .before .before .before .before .before .before .before .before .before .before in
     let a = s .args in
     sym (plane-size (a .w) (a .h) (a .r) (a .p) (offsets (a .element)) (a .n) (a .a) (now (a .work)) (s .pre .0))
 
 step-requires : tie.Need-step-requires Inv-loop μ-loop
 step-requires c κs =
-    let s = c .before .before .before .before .before .before .before .before .before .before .before .before .before .before in
+    let s = c .before .before .before .before .before .before .before .before .before .before .before .before in
     let a = s .args in
     let l = c .before .before .before .before .loop in
+    let k = c .before .before .before .loop-test .taken in
     let t = s .pre .1 in
-    let h : l .i < a .w * a .h = omega (arith, l .inv .1, c .before .before .before .loop-test .taken) in
-    let u = size-tame (a .w) (a .h) (offsets (a .element)) (a .n) (now (a .labels)) (l .i) (l .labels) t (l .inv .5) (l .inv .4) in
-    (l .inv .3, omega (arith, h, u .places), omega (arith, h, t .few), omega (arith, s .pre .2), step-within (a .w) (a .h) (a .r) (a .p) (offsets (a .element)) (a .n) (a .a) (now (a .work)) (s .pre .0) (l .labels) u (l .i) h (l .counters) (l .inv .6))
+    let h : l .i < a .w * a .h = omega (arith, k, l .inv .3, t .places) in
+    let u = size-tame (a .w) (a .h) (offsets (a .element)) (a .n) (now (a .labels)) (l .i) (l .labels) t (l .inv .4) (l .inv .3) in
+    (l .inv .2, k, omega (arith, h, t .few), omega (arith, s .pre .2), step-within (a .w) (a .h) (a .r) (a .p) (offsets (a .element)) (a .n) (a .a) (now (a .work)) (s .pre .0) (l .labels) u (l .i) h (l .counters) (l .inv .5))
 
-add-i : tie.Need-add-i Inv-loop μ-loop
-add-i c = let s = c .before .before .before .before .before .before .before .before .before .before .before .before .before .before .before .before .before .before .before in let l = c .before .before .before .before .before .before .before .before .before .loop in omega (arith, c .before .before .before .before .before .before .before .before .loop-test .taken, l .inv .1, s .pre .1 .few)
+add-next-place : tie.Need-add-next-place Inv-loop μ-loop
+add-next-place c = let s = c .before .before .before .before .before .before .before .before .before .before .before .before .before .before .before .before .before .before in omega (arith, c .before .before .before .before .before .before .before .before .before .loop-test .taken, c .before .before .before .before .before .before .before .before .before .before .loop .inv .3, s .pre .1 .places, s .pre .1 .few)
+
+next-place-requires-2 : tie.Need-next-place-requires-2 Inv-loop μ-loop
+next-place-requires-2 c κs =
+    let s = c .before .before .before .before .before .before .before .before .before .before .before .before .before .before .before .before .before .before in
+    let a = s .args in
+    let l = c .before .before .before .before .before .before .before .before .before .before .loop in
+    let k = c .before .before .before .before .before .before .before .before .before .loop-test .taken in
+    let t = s .pre .1 in
+    let h : l .i < a .w * a .h = omega (arith, k, l .inv .3, t .places) in
+    let u = size-tame (a .w) (a .h) (offsets (a .element)) (a .n) (now (a .labels)) (l .i) (l .labels) t (l .inv .4) (l .inv .3) in
+    let z = step-next (a .w) (a .h) (a .r) (a .p) (offsets (a .element)) (a .n) (a .a) (now (a .work)) (s .pre .0) (l .labels) u (l .i) h (l .counters) (l .inv .5) _ _ (c .before .before .before .before .before .step .ensures) in
+    omega (arith, k, z .size)
 
 loop-less : tie.Need-loop-less Inv-loop μ-loop
-loop-less c = omega (arith, c .before .before .before .before .before .before .before .before .loop-test .taken)
+loop-less c = omega (arith, c .before .before .before .before .before .before .before .before .before .before .loop-test .taken, c .before .before .before .before .before .before .before .before .before .before .before .loop .inv .3, c .next-place2 .ensures .0)
 
 loop-again : tie.Need-loop-again Inv-loop μ-loop
 loop-again c =
     let s = c .before .before .before .before .before .before .before .before .before .before .before .before .before .before .before .before .before .before .before in
     let a = s .args in
-    let l = c .before .before .before .before .before .before .before .before .before .loop in
+    let l = c .before .before .before .before .before .before .before .before .before .before .before .loop in
+    let k = c .before .before .before .before .before .before .before .before .before .before .loop-test .taken in
     let t = s .pre .1 in
-    let h : l .i < a .w * a .h = omega (arith, l .inv .1, c .before .before .before .before .before .before .before .before .loop-test .taken) in
-    let u = size-tame (a .w) (a .h) (offsets (a .element)) (a .n) (now (a .labels)) (l .i) (l .labels) t (l .inv .5) (l .inv .4) in
-    let z = step-next (a .w) (a .h) (a .r) (a .p) (offsets (a .element)) (a .n) (a .a) (now (a .work)) (s .pre .0) (l .labels) u (l .i) h (l .counters) (l .inv .6) _ _ (c .before .before .before .before .step .ensures) in (
-      omega (arith, c .before .before .before .before .before .before .before .before .loop-test .taken),
-      l .inv .1,
+    let h : l .i < a .w * a .h = omega (arith, k, l .inv .3, t .places) in
+    let u = size-tame (a .w) (a .h) (offsets (a .element)) (a .n) (now (a .labels)) (l .i) (l .labels) t (l .inv .4) (l .inv .3) in
+    let z = step-next (a .w) (a .h) (a .r) (a .p) (offsets (a .element)) (a .n) (a .a) (now (a .work)) (s .pre .0) (l .labels) u (l .i) h (l .counters) (l .inv .5) _ _ (c .before .before .before .before .before .before .step .ensures) in
+    let e = c .next-place2 .ensures in
+    let q = size-more (a .w) (a .h) (offsets (a .element)) (a .n) (now (a .labels)) (l .i) (l .labels) _ (l .inv .4) (z .labels) in (
+      l .inv .0,
+      omega (arith, e .1, z .size, l .inv .3),
       l .inv .2,
-      l .inv .3,
-      z .size ∙ l .inv .4,
-      size-more (a .w) (a .h) (offsets (a .element)) (a .n) (now (a .labels)) (l .i) (l .labels) _ (l .inv .5) (z .labels),
+      z .size ∙ l .inv .3,
+      size-gap (a .w) (a .h) (offsets (a .element)) (a .n) (now (a .labels)) (l .i + 1) _ _ (e .0) (λ j lo hi v. e .2 j lo hi (v ∙ sym (l .inv .0))) q,
       z .counters,
     )
 
 dilate-step-requires : tie.Need-dilate-step-requires Inv-loop μ-loop
-dilate-step-requires c κs = let s = c .before .before .before .before .before .before .before .before .before .before .before .before in (s .pre .0 .sheet, s .pre .0 .planes, s .pre .0 .clean)
+dilate-step-requires c κs = let s = c .before .before .before .before .before .before .before .before .before .before in (s .pre .0 .sheet, s .pre .0 .planes, s .pre .0 .clean)
 
 same-length : tie.Need-same-length Inv-loop μ-loop
-same-length c = c .before .before .before .before .before .loop .inv .4
+same-length c = c .before .before .before .before .before .loop .inv .3
 
 same-length-2 : tie.Need-same-length-2 Inv-loop μ-loop
 same-length-2 c = search needs
 
 same-length-3 : tie.Need-same-length-3 Inv-loop μ-loop
 same-length-3 c =
-    let s = c .before .before .before .before .before .before .before .before .before .before .before .before .before .before .before in
+    let s = c .before .before .before .before .before .before .before .before .before .before .before .before .before in
     let a = s .args in
     let l = c .before .before .before .before .before .loop in
-    ap length (l .inv .6) ∙ counts-length (a .w) (a .h) (offsets (a .element)) (l .labels) ∙ sym (ap length (s .pre .3) ∙ counts-length (a .w) (a .h) (offsets (a .element)) (now (a .labels)))
+    ap length (l .inv .5) ∙ counts-length (a .w) (a .h) (offsets (a .element)) (l .labels) ∙ sym (ap length (s .pre .3) ∙ counts-length (a .w) (a .h) (offsets (a .element)) (now (a .labels)))
 
 returns : tie.Need-returns Inv-loop μ-loop
 returns c =
-    let s = c .before .before .before .before .before .before .before .before .before .before .before .before .before .before .before in
+    let s = c .before .before .before .before .before .before .before .before .before .before .before .before .before in
     let a = s .args in
     let l = c .before .before .before .before .before .loop in
-    let e : c .before .before .before .before .before .before .end-of .result ≡ l .i = omega (arith, l .inv .0, c .before .before .before .before .loop-test .left) in
-    let f = subst (λ (k : ℕ). Past (a .n) k (now (a .labels))) e (l .inv .2) in (
+    let e : l .i ≡ a .w * a .h = omega (arith, l .inv .1, l .inv .3, c .before .before .before .before .loop-test .left, s .pre .1 .places) in (
       record {
-        size = l .inv .4;
-        labels = size-end (a .w) (a .h) (offsets (a .element)) (a .n) (now (a .labels)) (l .i) (l .labels) f (omega (arith, l .inv .0, l .inv .1)) (l .inv .5);
-        counters = l .inv .6;
+        size = l .inv .3;
+        labels = l .inv .4 ∙ ap (λ (k : ℕ). dropSize (a .w) (a .h) (offsets (a .element)) (a .n) (upTo k) (now (a .labels))) e;
+        counters = l .inv .5;
       },
       c .before .before .dilate-step .ensures,
     )
@@ -154,18 +156,18 @@ walk-size-spec =
     (tie.spec
     Inv-loop
     μ-loop
-    slice-reshare-prefix-blank-above
-    slice-aggregate-blank-above
-    blank-above-requires
-    slice-reshare-prefix-blank-under
-    slice-aggregate-blank-under
-    blank-under-requires
-    end-of-requires
+    slice-reshare-prefix-band-of
+    slice-aggregate-band-of
+    band-of-requires
+    add-v
+    cast-v
+    next-place-requires
     loop-holds
     slice-reshare-prefix-step
     slice-aggregate-step
     step-requires
-    add-i
+    add-next-place
+    next-place-requires-2
     loop-less
     loop-again
     dilate-step-requires

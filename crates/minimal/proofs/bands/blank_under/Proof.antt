@@ -1,4 +1,4 @@
--- `minimal::covers::blank_under` meets its contract.
+-- `minimal::bands::blank_under` meets its contract.
 use mathlib.Core.Path.{_∙_, _≡_, subst, sym}
 use Prim.Native.Nat.{_*_, _+_, _-_, _<_, _≤_, ℕ}
 use native.Mathlib.Omega.{arith}
@@ -8,8 +8,8 @@ use lib.ListN.{length}
 use Rattle.raster.proofs.RowLaws.{row-in}
 use Rattle.minimal.specs.Bands.{Blank}
 use Rattle.minimal.proofs.BandLaws.{blank-none, blank-row, blank-up}
-use Rattle.minimal.proofs.covers.blank_under.Statement.{statement}
-use Rattle.minimal.proofs.covers.blank_under.Tie as tie
+use Rattle.minimal.proofs.bands.blank_under.Statement.{statement}
+use Rattle.minimal.proofs.bands.blank_under.Tie as tie
 
 abbrev Inv-loop : tie.InvT-loop
 Inv-loop plane h r above y₀ y = (above + y ≤ h) × Blank ((h - y) * r) (h * r) plane

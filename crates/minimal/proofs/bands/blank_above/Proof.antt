@@ -1,4 +1,4 @@
--- `minimal::covers::blank_above` meets its contract.
+-- `minimal::bands::blank_above` meets its contract.
 use mathlib.Core.Path.{_∙_, subst, sym}
 use Prim.Native.Nat.{_*_, _+_, _-_, _≤_, ℕ}
 use native.Mathlib.Nat.{zero-mul}
@@ -9,8 +9,8 @@ use lib.ListN.{length}
 use Rattle.raster.proofs.RowLaws.{row-in}
 use Rattle.minimal.specs.Bands.{Blank}
 use Rattle.minimal.proofs.BandLaws.{blank-down, blank-none, blank-row}
-use Rattle.minimal.proofs.covers.blank_above.Statement.{statement}
-use Rattle.minimal.proofs.covers.blank_above.Tie as tie
+use Rattle.minimal.proofs.bands.blank_above.Statement.{statement}
+use Rattle.minimal.proofs.bands.blank_above.Tie as tie
 
 abbrev Inv-loop : tie.InvT-loop
 Inv-loop plane h r y₀ y = (y ≤ h) × Blank 0 (y * r) plane
