@@ -1,3 +1,4 @@
+// Label buffers beside planes: labels written where one plane has a point that another lacks.
 pub mod points;
 pub mod wild;
 

@@ -1,3 +1,4 @@
+// Points read from labels: the largest label, rows with a label, points joined to a plane.
 ghost use mathlib.Core.Path.{_≡_};
 ghost use mathlib.Core.Bool.{cond, _||_};
 ghost use Prim.Native.Nat.{_+_, _*_, _<_, _≤_, max};

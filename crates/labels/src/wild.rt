@@ -1,3 +1,4 @@
+// Row 5 of the table of refusals: a kept point that leaves the frame.
 use crate::points;
 ghost use mathlib.Core.Path.{_≡_};
 ghost use Prim.Native.Nat.{ℕ, _*_, _<_, _≤_};

@@ -1,3 +1,4 @@
+// Where a plane is not blank: the rows and bytes that a cover has to go through.
 ghost use Prim.Native.Nat.{_+_, _*_, _-_, _≤_};
 ghost use lib.ListN.{length};
 ghost use Rattle.minimal.specs.Bands.{Blank, Strip, Bounds};

@@ -1,3 +1,4 @@
+// What a point covers, in counters: counted up, tested, counted down.
 use crate::bands::Band;
 ghost use mathlib.Core.Path.{_≡_};
 ghost use mathlib.Core.Bool.{true};

@@ -1,3 +1,4 @@
+// Minimisation, "shortening" in 01: public.
 pub mod bands;
 pub mod covers;
 pub mod places;

@@ -1,3 +1,4 @@
+// The covers of all points counted, size by size.
 use crate::bands;
 use crate::bands::Band;
 use crate::covers;

@@ -1,3 +1,4 @@
+// The walk of 01: by size, smallest first, and within a size by place.
 use crate::bands;
 use crate::bands::Band;
 use crate::covers;

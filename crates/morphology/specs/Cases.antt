@@ -1,4 +1,4 @@
--- The settled cases of 01, A to E and G to L: a call, and what it answers and leaves. Definitions only; proofs/Cases.antt has the claim.
+-- The settled cases of 01, A to E and G to L, and one more: a call, and what it answers and leaves. Definitions only; proofs/Cases.antt has the claim.
 -- Rows of pixels and of labels are written as 01 writes them, a decimal digit each. Buffers to be written hold 7 before the call,
 -- work holds 9 and one byte more than it needs.
 use mathlib.Core.List.{List, [], _++_, _∷_, map}

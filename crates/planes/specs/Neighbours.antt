@@ -23,7 +23,7 @@ nearBit plane r h X Y = leb 2 Y && (ltb (Y - 2) h && (leb 8 X && (ltb X (8 * r +
 abbrev pub source : Bool → List ℕ → List ℕ → List ℕ
 source own image work = cond own work image
 
--- the same with foreground and background exchanged, outside as well
+-- what `nearBit` says, with foreground and background exchanged where inverse says so, outside as well
 abbrev pub sourceBit : Bool → List ℕ → ℕ → ℕ → ℕ → ℕ → Bool
 sourceBit inverse plane r h X Y = cond inverse (not (nearBit plane r h X Y)) (nearBit plane r h X Y)
 

@@ -1,3 +1,4 @@
+// One erosion, dilation or opening of a plane in the lent work; what a mask asks of an image.
 ghost use mathlib.Core.Path.{_≡_};
 ghost use mathlib.Core.Bool.{not, _&&_, cond, false};
 ghost use Prim.Native.Nat.{_+_, _*_, _<_, _≤_};

@@ -20,6 +20,7 @@ rowBit l x = bitOf (getD l (x / 8) 0) (x % 8)
 abbrev pub readBit : Bool → List ℕ → ℕ → Bool
 readBit t l x = cond t (not (rowBit l x)) (rowBit l x)
 
+-- the byte that does it to eight pixels by exclusive or
 abbrev pub exchangeByte : Bool → ℕ
 exchangeByte true = 255
 exchangeByte false = 0

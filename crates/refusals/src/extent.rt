@@ -1,3 +1,4 @@
+// An element's extent to each of the four sides.
 ghost use mathlib.Core.Path.{_≡_};
 ghost use mathlib.Core.Bool.{cond};
 ghost use Prim.Native.Nat.{_/_, _%_, _<_, _≤_, max};

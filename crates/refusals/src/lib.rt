@@ -1,3 +1,4 @@
+// The tests of the table of refusals that operations share, and their order.
 pub mod extent;
 
 ghost use mathlib.Core.Path.{_≡_};

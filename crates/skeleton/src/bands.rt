@@ -1,3 +1,4 @@
+// The band of rows that still holds ink.
 ghost use Prim.Native.Nat.{_*_, _≤_};
 ghost use lib.ListN.{length};
 ghost use Rattle.skeleton.specs.Bands.{FirstRow, EndRow};

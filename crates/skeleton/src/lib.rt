@@ -1,3 +1,4 @@
+// Erosion and opening by n-fold elements, decomposition, reconstruction at a cut: public.
 mod bands;
 
 ghost use mathlib.Core.Path.{_≡_};

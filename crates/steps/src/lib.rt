@@ -1,3 +1,4 @@
+// Erosions and dilations one after the other in the first plane of work; handing out and clearing.
 ghost use mathlib.Core.Path.{_≡_};
 ghost use mathlib.Core.List.{_++_};
 ghost use Prim.Native.Nat.{_*_, _<_, _≤_, _^_};

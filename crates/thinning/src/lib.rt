@@ -1,3 +1,4 @@
+// Hit-or-miss by one mask and thinning by the house set: public.
 ghost use mathlib.Core.Path.{_≡_};
 ghost use mathlib.Core.Bool.{false};
 ghost use mathlib.Core.List.{[], _∷_};
