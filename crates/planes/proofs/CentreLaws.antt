@@ -12,8 +12,7 @@ use Rattle.morphology.specs.Element.{bit}
 use Rattle.raster.specs.Rows.{RowIs, join, rowBit}
 use Rattle.raster.proofs.RowLaws.{row-in}
 use Rattle.planes.specs.Neighbours.{Begun, PlaneIs, fiveOf, joined, nearBit, neighbours, turned}
-use Rattle.planes.proofs.NeighbourLaws.{join-assoc, join-comm, join-unit, unit-join}
-use Rattle.planes.proofs.ScatterLaws.{joined-same}
+use Rattle.planes.proofs.NeighbourLaws.{join-assoc, join-comm, join-unit, joined-same, unit-join}
 
 -- v joined at q alone
 joined-add : (t : Bool) (n q : ℕ) (v : Bool) (f g : ℕ → Bool) → q < n → ((i : ℕ) → i < n → (i ≡ q → ⊥) → f i ≡ g i) → f q ≡ join t v (g q)

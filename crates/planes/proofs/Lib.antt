@@ -1,5 +1,6 @@
 pub mod NeighbourLaws
 pub mod ScatterLaws
+pub mod StripLaws
 pub mod CentreLaws
 pub mod SetLaws
 pub mod PlaneLaws

@@ -4,16 +4,10 @@ use mathlib.Core.Bool.{Bool, _&&_, cond, false, not, true}
 use mathlib.Core.List.{List}
 use mathlib.Core.Path.{_≡_}
 use Prim.Native.Nat.{_*_, _+_, _-_, _/_, _<_, _^_, _≤_, suc, zero, ℕ}
-use lib.Dec.{eqb, leb, ltb}
+use lib.Dec.{leb, ltb}
 use lib.ListN.{getD, length}
 use Rattle.morphology.specs.Element.{bit}
 use Rattle.raster.specs.Rows.{join, rowBit}
-
--- a row buffer: room for 128 bytes from byte 1 on; of a row of r bytes all others are 0
-pub record Margins (r : ℕ) (b : List ℕ) : Type 0 where
-  pub size : length b ≡ 130
-  pub first : getD b 0 0 ≡ 0
-  pub after : (j : ℕ) → r < j → getD b j 0 ≡ 0
 
 -- pixel (X - 8, Y - 2) of a plane of h rows of r bytes; background outside
 unfoldable pub nearBit : List ℕ → ℕ → ℕ → ℕ → ℕ → Bool
@@ -27,14 +21,25 @@ source own image work = cond own work image
 abbrev pub sourceBit : Bool → List ℕ → ℕ → ℕ → ℕ → ℕ → Bool
 sourceBit inverse plane r h X Y = cond inverse (not (nearBit plane r h X Y)) (nearBit plane r h X Y)
 
--- there is a row Y - 2
-abbrev pub isNear : ℕ → ℕ → Bool
-isNear h Y = leb 2 Y && ltb (Y - 2) h
+-- pixel X - 8 is one of a row of r bytes
+abbrev pub isWithin : ℕ → ℕ → Bool
+isWithin r X = leb 8 X && ltb X (8 * r + 8)
 
--- b is row Y - 2 of a plane, between bytes of 0
-pub record NearRow (plane : List ℕ) (r h Y : ℕ) (b : List ℕ) : Type 0 where
-  pub margins : Margins r b
-  pub pixels : (X : ℕ) → rowBit b X ≡ nearBit plane r h X Y
+-- pixel X - 8 of row Y, of rows of r bytes that a buffer has from its byte 1 on; background beyond the row's ends
+unfoldable pub rowsBit : List ℕ → ℕ → ℕ → ℕ → Bool
+rowsBit buf r X Y = isWithin r X && rowBit buf (8 * (Y * r) + X)
+
+-- the same, with foreground and background exchanged where inverse says so
+abbrev pub stripBit : Bool → List ℕ → ℕ → ℕ → ℕ → Bool
+stripBit inverse buf r X Y = cond inverse (not (rowsBit buf r X Y)) (rowsBit buf r X Y)
+
+-- a buffer has the rows y - 2 to y + n + 2 of a plane
+abbrev pub NearRows : List ℕ → ℕ → ℕ → ℕ → ℕ → List ℕ → Type 0
+NearRows plane r h y n buf = (X Y : ℕ) → Y < n + 4 → rowsBit buf r X Y ≡ nearBit plane r h X (y + Y)
+
+-- a strip has the m rows of a buffer, each moved: pixel x is what was x + s - 8
+abbrev pub Moved : List ℕ → ℕ → ℕ → ℕ → List ℕ → Type 0
+Moved buf s r m strip = (y x : ℕ) → y < m → x < 8 * r → rowBit strip (8 * (y * r) + x) ≡ rowsBit buf r (x + s) y
 
 -- the offset k - 2, and its negative in a dilation
 abbrev pub turned : Bool → ℕ → ℕ
@@ -59,13 +64,9 @@ fiveOf t five row x = joined t 5 (λ j. cond (bit five j) (row (x + (turned t j 
 unfoldable pub neighbours : Bool → ℕ → (ℕ → ℕ → Bool) → ℕ → ℕ → Bool
 neighbours t e near x y = joined t 5 (λ k. fiveOf t (e / 2 ^ (k * 5)) (λ X. near X (y + turned t k)) x)
 
--- what row k of an element asks at (x, y) of the row Y - 2, whose pixels are row: nothing where it leads to another row
-abbrev pub rowAsks : Bool → ℕ → (ℕ → Bool) → ℕ → ℕ → ℕ → ℕ → Bool
-rowAsks t e row Y y x k = cond (eqb (y + turned t k) Y) (fiveOf t (e / 2 ^ (k * 5)) row x) (not t)
-
--- what the whole element asks at (x, y) of the row Y - 2 alone
-abbrev pub elementAsks : Bool → ℕ → (ℕ → Bool) → ℕ → ℕ → ℕ → Bool
-elementAsks t e row Y y x = joined t 5 (rowAsks t e row Y y x)
+-- what a column of an element, its bits 0, 5, 10, 15 and 20, asks of rows
+unfoldable pub columnOf : Bool → ℕ → (ℕ → Bool) → Bool
+columnOf t column rows = joined t 5 (λ k. cond (bit column (k * 5)) (rows (turned t k)) (not t))
 
 -- new is old but for the m rows of r bytes at p, of which pixel x of row y is g y x
 pub record PlaneIs (p r m : ℕ) (old new : List ℕ) (g : ℕ → ℕ → Bool) : Type 0 where

@@ -1,50 +1,15 @@
 // One erosion, dilation or opening of a plane in the lent work; what a mask asks of an image.
 ghost use mathlib.Core.Path.{_≡_};
 ghost use mathlib.Core.Bool.{not, _&&_, cond, false};
-ghost use Prim.Native.Nat.{_+_, _*_, _<_, _≤_};
+ghost use Prim.Native.Nat.{_+_, _-_, _*_, _<_, _≤_, min};
 ghost use lib.Dec.{eqb, ltb, T};
 ghost use lib.ListN.{length};
 ghost use Rattle.morphology.specs.Element.{offsets, bit};
 ghost use Rattle.morphology.specs.Image.{imageSet, pack, isClean, clip};
 ghost use Rattle.morphology.specs.Morphology.{erode, dilate, opening};
-ghost use Rattle.raster.specs.Rows.{rowBit, readBit, overwrite, RowJoined};
+ghost use Rattle.raster.specs.Rows.{rowBit, readBit, overwrite, Pixelwise, RowJoined};
 ghost use Rattle.planes.specs.Frames.{Frame};
-ghost use Rattle.planes.specs.Neighbours.{isNear, Margins, NearRow, turned, startByte, fiveOf, elementAsks, neighbours, source, sourceBit, PlaneIs, PlaneJoined, Begun, RowsTo};
-
-// Whether a plane of h rows has a row yk - 2.
-fn is_near(h: usize, yk: usize) -> bool
-    ensures { λ b. ⌜ b ≡ isNear h yk ⌝ }
-{
-    if yk < 2 {
-        return false;
-    }
-    yk - 2 < h
-}
-
-// Row yk - 2 of a plane, or background where there is no such row, into the row buffer.
-fn load_near(plane: &[u8], r: usize, h: usize, yk: usize, buf: &mut [u8])
-    requires { ⌜ (h * r ≤ length (now plane)) × (r ≤ 128) × Margins r (now buf) ⌝ }
-    ensures { λ _. ⌜ NearRow (now (plane .entry)) r h yk (now (buf .exit)) ⌝ }
-{
-    if !is_near(h, yk) {
-        raster::fill(&mut buf[1..r + 1], 0);
-        return;
-    }
-    let at = (yk - 2) * r;
-    raster::copy(&plane[at..at + r], &mut buf[1..r + 1]);
-}
-
-// The same of the first plane of work, or of an image.
-fn load_source(own: bool, image: &[u8], work: &[u8], r: usize, h: usize, yk: usize, buf: &mut [u8])
-    requires { ⌜ (h * r ≤ length (source own (now image) (now work))) × (r ≤ 128) × Margins r (now buf) ⌝ }
-    ensures { λ _. ⌜ NearRow (source own (now (image .entry)) (now (work .entry))) r h yk (now (buf .exit)) ⌝ }
-{
-    if own {
-        load_near(work, r, h, yk, buf);
-        return;
-    }
-    load_near(image, r, h, yk, buf);
-}
+ghost use Rattle.planes.specs.Neighbours.{NearRows, Moved, turned, isWithin, startByte, columnOf, neighbours, source, sourceBit, stripBit, PlaneIs, PlaneJoined, Begun, RowsTo};
 
 // The offset k - 2 as k; in a dilation its negative.
 fn turn(dilating: bool, k: usize) -> usize
@@ -57,125 +22,222 @@ fn turn(dilating: bool, k: usize) -> usize
     k
 }
 
-// Joins the row in buf, inverted or not and moved, to dst where digit is 1.
-fn join_if(dilating: bool, inverse: bool, buf: &[u8], digit: u32, s: u32, dst: &mut [u8])
-    requires { ⌜ (s < 16) × (length (now dst) + 2 ≤ length (now buf)) ⌝ }
-    ensures { λ _. ⌜ RowJoined dilating (now (dst .entry)) (now (dst .exit)) (λ x. cond (eqb digit 1) (readBit inverse (now (buf .entry)) (x + s)) (not dilating)) ⌝ }
+// a less b, or 0.
+fn less(a: usize, b: usize) -> usize
+    ensures { λ r. ⌜ r ≡ a - b ⌝ }
+{
+    if a < b {
+        return 0;
+    }
+    a - b
+}
+
+fn lesser(a: usize, b: usize) -> usize
+    ensures { λ r. ⌜ r ≡ min a b ⌝ }
+{
+    if a < b {
+        return a;
+    }
+    b
+}
+
+// The rows y - 2 to y + n + 2 of a plane, background where there is no such row, into buf from its byte 1 on.
+fn load_near(plane: &[u8], r: usize, h: usize, y: usize, n: usize, buf: &mut [u8])
+    requires { ⌜ (h * r ≤ length (now plane)) × (r ≤ 128) × (h ≤ 1024) × (y + n ≤ h) × ((n + 4) * r + 2 ≤ length (now buf)) ⌝ }
+    ensures { λ _. ⌜ NearRows (now (plane .entry)) r h y n (now (buf .exit)) ⌝ }
+{
+    raster::fill(buf, 0);
+    let blank = less(2, y);
+    let from = less(y, 2);
+    let rows = lesser(y + n + 2, h) - from;
+    let at = blank * r + 1;
+    let a = from * r;
+    raster::copy(&plane[a..a + rows * r], &mut buf[at..at + rows * r]);
+}
+
+// The same of the first plane of work, or of an image.
+fn load_source(
+    own: bool,
+    image: &[u8],
+    work: &[u8],
+    r: usize,
+    h: usize,
+    y: usize,
+    n: usize,
+    buf: &mut [u8],
+)
+    requires { ⌜ (h * r ≤ length (source own (now image) (now work))) × (r ≤ 128) × (h ≤ 1024) × (y + n ≤ h) × ((n + 4) * r + 2 ≤ length (now buf)) ⌝ }
+    ensures { λ _. ⌜ NearRows (source own (now (image .entry)) (now (work .entry))) r h y n (now (buf .exit)) ⌝ }
+{
+    if own {
+        load_near(work, r, h, y, n, buf);
+        return;
+    }
+    load_near(image, r, h, y, n, buf);
+}
+
+// Each pixel x of dst becomes pixel x + s of buf: a loop for each s, so that it shifts by constants.
+fn move_bytes(buf: &[u8], s: u32, dst: &mut [u8])
+    requires { ⌜ (6 ≤ s) × (s ≤ 10) × (length (now dst) + 2 ≤ length (now buf)) ⌝ }
+    ensures { λ _. ⌜ Pixelwise (now (dst .entry)) (now (dst .exit)) (λ x b. rowBit (now (buf .entry)) (x + s)) ⌝ }
+{
+    if s == 6 {
+        raster::move_rows(buf, 6, dst);
+    } else if s == 7 {
+        raster::move_rows(buf, 7, dst);
+    } else if s == 8 {
+        raster::move_rows(buf, 8, dst);
+    } else if s == 9 {
+        raster::move_rows(buf, 9, dst);
+    } else {
+        raster::move_rows(buf, 10, dst);
+    }
+}
+
+// Clears the pixels x of a row that a move by s takes from beyond its ends: those without 8 ≤ x + s < 8 r + 8.
+fn clear_end(row: &mut [u8], s: u32)
+    requires { ⌜ (6 ≤ s) × (s ≤ 10) × (0 < length (now row)) × (length (now row) ≤ 128) ⌝ }
+    ensures { λ _. ⌜ Pixelwise (now (row .entry)) (now (row .exit)) (λ x b. b && isWithin (length (now (row .entry))) (x + s)) ⌝ }
+{
+    if s < 8 {
+        raster::clear_start(row, 8 - s);
+        return;
+    }
+    raster::clear_padding(row, row.len() * 8 + 8 - s as usize);
+}
+
+// The same for m rows of r bytes.
+fn clear_ends(strip: &mut [u8], s: u32, r: usize, m: usize)
+    requires { ⌜ (6 ≤ s) × (s ≤ 10) × (0 < r) × (r ≤ 128) × (m * r ≤ length (now strip)) ⌝ }
+    ensures { λ _. ⌜ PlaneIs 0 r m (now (strip .entry)) (now (strip .exit)) (λ y x. rowBit (now (strip .entry)) (8 * (0 + y * r) + x) && isWithin r (x + s)) ⌝ }
+{
+    let mut y: usize = 0;
+    while y < m {
+        let d = y * r;
+        clear_end(&mut strip[d..d + r], s);
+        y = y + 1;
+    }
+}
+
+// The m rows in buf moved: pixel x of each becomes what it has at x + s - 8, background beyond its ends.
+fn move_strip(buf: &[u8], s: u32, r: usize, m: usize, strip: &mut [u8])
+    requires { ⌜ (6 ≤ s) × (s ≤ 10) × (0 < r) × (r ≤ 128) × (m * r + 2 ≤ length (now buf)) × (m * r ≤ length (now strip)) ⌝ }
+    ensures { λ _. ⌜ Moved (now (buf .entry)) s r m (now (strip .exit)) ⌝ }
+{
+    move_bytes(buf, s, &mut strip[..m * r]);
+    if s != 8 {
+        clear_ends(strip, s, r, m);
+    }
+}
+
+// Joins the pixels of src, inverted or not, to dst where digit is 1.
+fn join_if(dilating: bool, inverse: bool, digit: u32, src: &[u8], dst: &mut [u8])
+    requires { ⌜ length (now dst) ≤ length (now src) ⌝ }
+    ensures { λ _. ⌜ RowJoined dilating (now (dst .entry)) (now (dst .exit)) (λ x. cond (eqb digit 1) (readBit inverse (now (src .entry)) x) (not dilating)) ⌝ }
 {
     if digit == 1 {
-        raster::join_row(dilating, inverse, buf, s, dst);
+        raster::join_rows(dilating, inverse, src, dst);
     }
 }
 
-// Joins one row of the element, the lowest five bits, of the pixels in buf to dst, bit by bit.
-fn join_bits(dilating: bool, inverse: bool, buf: &[u8], five: u32, dst: &mut [u8])
-    requires { ⌜ length (now dst) + 2 ≤ length (now buf) ⌝ }
-    ensures { λ _. ⌜ RowJoined dilating (now (dst .entry)) (now (dst .exit)) (fiveOf dilating five (readBit inverse (now (buf .entry)))) ⌝ }
+// Joins a column of the element, its bits 0, 5, 10, 15 and 20, of the moved rows in strip to dst.
+fn join_column(dilating: bool, inverse: bool, strip: &[u8], r: usize, column: u32, dst: &mut [u8])
+    requires { ⌜ (r ≤ 128) × (4 * r + length (now dst) ≤ length (now strip)) ⌝ }
+    ensures { λ _. ⌜ RowJoined dilating (now (dst .entry)) (now (dst .exit)) (λ x. columnOf dilating column (λ k. readBit inverse (now (strip .entry)) (8 * (k * r) + x))) ⌝ }
 {
-    let mut rest = five;
-    let mut j: usize = 0;
-    while j < 5 {
-        let s = turn(dilating, j) as u32 + 6;
-        join_if(dilating, inverse, buf, rest % 2, s, dst);
-        rest = rest / 2;
-        j = j + 1;
-    }
-}
-
-// The same; where it has the middle bit alone, at once.
-fn join_five(dilating: bool, inverse: bool, buf: &[u8], five: u32, dst: &mut [u8])
-    requires { ⌜ length (now dst) + 2 ≤ length (now buf) ⌝ }
-    ensures { λ _. ⌜ RowJoined dilating (now (dst .entry)) (now (dst .exit)) (fiveOf dilating five (readBit inverse (now (buf .entry)))) ⌝ }
-{
-    if five % 32 == 4 {
-        raster::join_row(dilating, inverse, buf, 8, dst);
-        return;
-    }
-    join_bits(dilating, inverse, buf, five, dst);
-}
-
-// Joins row k of the element, the lowest five bits of five, of the row yk - 2 in buf to the row of the plane at p that asks for it.
-fn scatter_five(
-    dilating: bool,
-    inverse: bool,
-    work: &mut [u8],
-    p: usize,
-    r: usize,
-    h: usize,
-    yk: usize,
-    k: usize,
-    five: u32,
-    buf: &[u8],
-)
-    requires { ⌜ (p + h * r ≤ length (now work)) × (k < 5) × (r + 2 ≤ length (now buf)) ⌝ }
-    ensures { λ _. ⌜ PlaneJoined dilating p r h (now (work .entry)) (now (work .exit)) (λ y x. cond (eqb (y + turned dilating k) yk) (fiveOf dilating five (readBit inverse (now (buf .entry))) x) (not dilating)) ⌝ }
-{
-    if five % 32 == 0 {
-        return;
-    }
-    let back = turn(dilating, k);
-    if yk < back {
-        return;
-    }
-    let y = yk - back;
-    if h <= y {
-        return;
-    }
-    let d = p + y * r;
-    join_five(dilating, inverse, buf, five, &mut work[d..d + r]);
-}
-
-// Joins the row yk - 2 in buf to each row of the plane at p that asks for it.
-fn scatter_row(
-    dilating: bool,
-    inverse: bool,
-    work: &mut [u8],
-    p: usize,
-    r: usize,
-    h: usize,
-    yk: usize,
-    element: u32,
-    buf: &[u8],
-)
-    requires { ⌜ (p + h * r ≤ length (now work)) × (r + 2 ≤ length (now buf)) ⌝ }
-    ensures { λ _. ⌜ PlaneJoined dilating p r h (now (work .entry)) (now (work .exit)) (λ y x. elementAsks dilating element (readBit inverse (now (buf .entry))) yk y x) ⌝ }
-{
-    let mut rest = element;
+    let n = dst.len();
+    let mut rest = column;
     let mut k: usize = 0;
     while k < 5 {
-        if rest == 0 {
-            return;
-        }
-        scatter_five(dilating, inverse, work, p, r, h, yk, k, rest, buf);
+        let at = turn(dilating, k) * r;
+        join_if(dilating, inverse, rest % 2, &strip[at..at + n], dst);
         rest = rest / 32;
         k = k + 1;
     }
 }
 
-// Joins row yk - 2 of the source, inverted or not, to each row of the plane at p that asks for it.
-fn scatter_near(
+// Joins column j of the element, bits 0, 5, 10, 15 and 20 of column, of the rows in buf to the n rows of dst.
+fn join_moved(
     dilating: bool,
     inverse: bool,
-    own: bool,
-    image: &[u8],
-    work: &mut [u8],
-    p: usize,
+    buf: &[u8],
+    strip: &mut [u8],
     r: usize,
-    h: usize,
-    yk: usize,
-    element: u32,
-    buf: &mut [u8],
+    n: usize,
+    j: usize,
+    column: u32,
+    dst: &mut [u8],
 )
-    requires { ⌜ (h * r ≤ length (source own (now image) (now work))) × (p + h * r ≤ length (now work)) × (r ≤ 128) × Margins r (now buf) ⌝ }
-    ensures plane { λ _. ⌜ PlaneJoined dilating p r h (now (work .entry)) (now (work .exit)) (λ y x. elementAsks dilating element (λ X. sourceBit inverse (source own (now (image .entry)) (now (work .entry))) r h X yk) yk y x) ⌝ }
-    ensures margins { λ _. ⌜ Margins r (now (buf .exit)) ⌝ }
+    requires { ⌜ (j < 5) × (0 < r) × (r ≤ 128) × ((n + 4) * r + 2 ≤ length (now buf)) × ((n + 4) * r ≤ length (now strip)) × (length (now dst) ≡ n * r) ⌝ }
+    ensures { λ _. ⌜ PlaneJoined dilating 0 r n (now (dst .entry)) (now (dst .exit)) (λ y x. columnOf dilating column (λ k. stripBit inverse (now (buf .entry)) r (x + (turned dilating j + 6)) (y + k))) ⌝ }
 {
-    load_source(own, image, &work[..], r, h, yk, buf);
-    scatter_row(dilating, inverse, work, p, r, h, yk, element, &buf[..]);
+    if column % 2 + column / 32 % 2 + column / 1024 % 2 + column / 32768 % 2 + column / 1048576 % 2
+        == 0
+    {
+        return;
+    }
+    move_strip(buf, turn(dilating, j) as u32 + 6, r, n + 4, strip);
+    join_column(dilating, inverse, &strip[..], r, column, dst);
 }
 
-// Joins what the element asks of the source, the first plane of work or an image, to each row of the plane at p.
-fn scatter_plane(
+// Joins what the element asks of the rows in buf to the n rows of dst, a column of the element at a time.
+fn join_strip(
+    dilating: bool,
+    inverse: bool,
+    buf: &[u8],
+    strip: &mut [u8],
+    r: usize,
+    n: usize,
+    element: u32,
+    dst: &mut [u8],
+)
+    requires { ⌜ (0 < r) × (r ≤ 128) × ((n + 4) * r + 2 ≤ length (now buf)) × ((n + 4) * r ≤ length (now strip)) × (length (now dst) ≡ n * r) ⌝ }
+    ensures { λ _. ⌜ PlaneJoined dilating 0 r n (now (dst .entry)) (now (dst .exit)) (λ y x. neighbours dilating element (stripBit inverse (now (buf .entry)) r) x y) ⌝ }
+{
+    let mut rest = element;
+    let mut j: usize = 0;
+    while j < 5 {
+        join_moved(dilating, inverse, buf, strip, r, n, j, rest, dst);
+        rest = rest / 2;
+        j = j + 1;
+    }
+}
+
+// Joins what the element asks of the source to the rows y to y + n of the plane at p.
+fn join_near(
+    dilating: bool,
+    inverse: bool,
+    own: bool,
+    image: &[u8],
+    work: &mut [u8],
+    p: usize,
+    r: usize,
+    h: usize,
+    y: usize,
+    n: usize,
+    element: u32,
+    buf: &mut [u8],
+    strip: &mut [u8],
+)
+    requires { ⌜ (h * r ≤ length (source own (now image) (now work))) × (p + h * r ≤ length (now work)) × (0 < r) × (r ≤ 128) × (h ≤ 1024) × (y + n ≤ h) × ((n + 4) * r + 2 ≤ length (now buf)) × ((n + 4) * r ≤ length (now strip)) ⌝ }
+    ensures { λ _. ⌜ PlaneJoined dilating (p + y * r) r n (now (work .entry)) (now (work .exit)) (λ Y x. neighbours dilating element (sourceBit inverse (source own (now (image .entry)) (now (work .entry))) r h) x (y + Y)) ⌝ }
+{
+    load_source(own, image, &work[..], r, h, y, n, buf);
+    let d = p + y * r;
+    join_strip(
+        dilating,
+        inverse,
+        &buf[..],
+        strip,
+        r,
+        n,
+        element,
+        &mut work[d..d + n * r],
+    );
+}
+
+// Joins what the element asks of the source, the first plane of work or an image, to each row of the plane at p, some 2,048 bytes at a time.
+fn join_plane(
     dilating: bool,
     inverse: bool,
     own: bool,
@@ -186,13 +248,16 @@ fn scatter_plane(
     h: usize,
     element: u32,
 )
-    requires { ⌜ (h * r ≤ cond own p (length (now image))) × (p + h * r ≤ length (now work)) × (r ≤ 128) × (h ≤ 1024) ⌝ }
+    requires { ⌜ (h * r ≤ cond own p (length (now image))) × (p + h * r ≤ length (now work)) × (0 < r) × (r ≤ 128) × (h ≤ 1024) ⌝ }
     ensures { λ _. ⌜ PlaneJoined dilating p r h (now (work .entry)) (now (work .exit)) (λ y x. neighbours dilating element (sourceBit inverse (source own (now (image .entry)) (now (work .entry))) r h) x y) ⌝ }
 {
-    let mut buf = [0u8; 130];
-    let mut yk: usize = 0;
-    while yk < h + 4 {
-        scatter_near(
+    let mut buf = [0u8; 2562];
+    let mut strip = [0u8; 2560];
+    let most = 2048 / r;
+    let mut y: usize = 0;
+    while y < h {
+        let n = lesser(most, h - y);
+        join_near(
             dilating,
             inverse,
             own,
@@ -201,20 +266,22 @@ fn scatter_plane(
             p,
             r,
             h,
-            yk,
+            y,
+            n,
             element,
             &mut buf,
+            &mut strip,
         );
-        yk = yk + 1;
+        y = y + n;
     }
 }
 
 // Joins what a mask asks of an image to each row of out: its element of the foreground, or, inverse, of the background.
 pub fn join_mask(inverse: bool, image: &[u8], out: &mut [u8], r: usize, h: usize, element: u32)
-    requires { ⌜ (h * r ≤ length (now image)) × (h * r ≤ length (now out)) × (r ≤ 128) × (h ≤ 1024) ⌝ }
+    requires { ⌜ (h * r ≤ length (now image)) × (h * r ≤ length (now out)) × (0 < r) × (r ≤ 128) × (h ≤ 1024) ⌝ }
     ensures { λ _. ⌜ PlaneJoined false 0 r h (now (out .entry)) (now (out .exit)) (λ y x. neighbours false element (sourceBit inverse (now (image .entry)) r h) x y) ⌝ }
 {
-    scatter_plane(false, inverse, false, image, out, 0, r, h, element);
+    join_plane(false, inverse, false, image, out, 0, r, h, element);
 }
 
 // What a row begins with: background before a dilation, foreground before an erosion.
@@ -269,7 +336,7 @@ fn morph_plane(
 {
     let rest = begin_plane(dilating, work, p, r, h, element);
     let none = [0u8; 1];
-    scatter_plane(dilating, false, true, &none, work, p, r, h, rest);
+    join_plane(dilating, false, true, &none, work, p, r, h, rest);
     clear_rows(work, p, w, r, h);
 }
 

@@ -5,9 +5,9 @@ use Prim.Native.Nat.{_%_, _*_, _+_, _-_, _/_, _<_, _^_, _≤_, suc, zero, ℕ}
 use native.Mathlib.Decide.{decLe}
 use native.Mathlib.Nat.{add-zero, mod-eq-of-lt, zero-div}
 use native.Mathlib.Omega.{arith}
-use borrow.Author.Tests.{le-ltb, lt-ltb}
+use borrow.Author.Tests.{le-leb, le-ltb, lt-leb, lt-ltb}
 use lib.Bits.{bitAnd, bitOr, bitXor, or-shifted}
-use lib.Dec.{eqb, ltb}
+use lib.Dec.{eqb, leb, ltb}
 use lib.Pow.{shl-shr, shr-shr, split}
 use Rattle.morphology.specs.Element.{bit}
 use Rattle.morphology.specs.Image.{bitOf}
@@ -129,6 +129,28 @@ cleared-bit v k j hv hk hj = ap (λ (n : ℕ). eqb (n / 2 ^ m % 2) 1) e ∙ by (
         ap (λ (n : ℕ). eqb n 1)
         (ap (λ (n : ℕ). n / 2 ^ m % 2) (sym (add-zero u)) ∙ below-top (v / 2 ^ k) k 0 m (omega arith) ∙ ap (λ (n : ℕ). n % 2) (zero-div (2 ^ m)))
         ∙ and-false (eqb (v / 2 ^ m % 2) 1) ∙ ap (λ (b : Bool). eqb (v / 2 ^ m % 2) 1 && b) (sym (le-ltb j (8 - k) h))
+
+-- the highest k bits cleared: pixels before k are background
+pub started-bit : (v k j : ℕ) → k < 8 → j < 8 → bitOf ((v * 2 ^ k) % 2 ^ 8 / 2 ^ k) j ≡ (bitOf v j && leb k j)
+unfolding bitOf
+started-bit v k j hk hj = ap (λ (n : ℕ). eqb (n % 2) 1) (shr-shr u k (7 - j)) ∙ by (decLe k j)
+  where
+    u : ℕ
+    u = (v * 2 ^ k) % 2 ^ 8
+
+    by : Dec (k ≤ j) → eqb (u / 2 ^ (k + (7 - j)) % 2) 1 ≡ (eqb (v / 2 ^ (7 - j) % 2) 1 && leb k j)
+    by (yes l) =
+        let q : k + (7 - j) ≡ 7 - (j - k) = omega arith in
+        ap (λ (n : ℕ). eqb n 1)
+        (ap (λ (n : ℕ). u / 2 ^ n % 2) q ∙ byte-dig (v * 2 ^ k) (j - k) (omega arith) ∙ ap (λ (n : ℕ). v * 2 ^ k / 2 ^ n % 2) (sym q)
+        ∙ ap (λ (n : ℕ). n % 2) (sym (shr-shr (v * 2 ^ k) k (7 - j)) ∙ ap (λ (n : ℕ). n / 2 ^ (7 - j)) (shl-shr v k)))
+        ∙ and-true (eqb (v / 2 ^ (7 - j) % 2) 1) ∙ ap (λ (b : Bool). eqb (v / 2 ^ (7 - j) % 2) 1 && b) (sym (le-leb k j l))
+    by (no l) =
+        let q : k + (7 - j) ≡ 8 + (k - j - 1) = omega arith in
+        let z : u / 2 ^ 8 ≡ 0 = omega arith in
+        ap (λ (n : ℕ). eqb (n % 2) 1)
+        (ap (λ (n : ℕ). u / 2 ^ n) q ∙ sym (shr-shr u 8 (k - j - 1)) ∙ ap (λ (n : ℕ). n / 2 ^ (k - j - 1)) z ∙ zero-div (2 ^ (k - j - 1)))
+        ∙ and-false (eqb (v / 2 ^ (7 - j) % 2) 1) ∙ ap (λ (b : Bool). eqb (v / 2 ^ (7 - j) % 2) 1 && b) (sym (lt-leb k j (omega arith)))
 
 pub zero-bit : (n k : ℕ) → n ≡ 0 → bitOf n k ≡ false
 unfolding bitOf

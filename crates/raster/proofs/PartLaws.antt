@@ -7,13 +7,13 @@ use native.Mathlib.Decide.{decLt}
 use native.Mathlib.Nat.{add-assoc, not-suc-le-zero, zero-add}
 use borrow.Author.Count.{below-more}
 use native.Mathlib.Omega.{arith}
-use borrow.Author.Tests.{le-ltb, lt-ltb}
-use lib.Dec.{lit<, ltb}
+use borrow.Author.Tests.{le-leb, le-ltb, lt-ltb}
+use lib.Dec.{leb, lit<, ltb}
 use lib.ListN.{List·getD-append, List·getD-eq-default, drop, getD, length, length-append, length-drop, length-set, set, take}
 use lib.Seq.{drop-at, drop-drop, drop-length, ext-getD, getD-append-add, getD-drop, getD-set-other, getD-set-same, getD-take, length-take-le, take-add, take-all, take-append-le, take-take}
 use Rattle.morphology.specs.Image.{bitOf}
 use Rattle.raster.specs.Rows.{Pixelwise, RowIs, RowJoined, join, overwrite, rowBit}
-use Rattle.raster.proofs.ByteLaws.{and-true, cleared-bit}
+use Rattle.raster.proofs.ByteLaws.{and-true, cleared-bit, started-bit}
 use Rattle.raster.proofs.RowLaws.{rowBit-same}
 
 -- new is old but for the k elements from a, which are ys
@@ -248,3 +248,24 @@ padding-row w k old ek hw hr h0 hv = record { size = length-set old last v; pixe
         ∙ ap (λ (n : ℕ). bitOf n (x % 8)) (getD-set-same old last v 0 (omega arith))
         ∙ cleared-bit (getD old last 0) k (x % 8) hv (omega arith) (omega arith)
         ∙ ap₂ _&&_ (sym (ap (λ (i : ℕ). bitOf (getD old i 0) (x % 8)) q)) (ltb-iff (x % 8) (8 - k) x w (λ z. omega arith) (λ z. omega arith))
+
+-- the first byte of a row with its highest k bits cleared
+pub started-row : (k : ℕ) (old : List ℕ) → k < 8 → 0 < length old
+    → Pixelwise old (set old 0 ((getD old 0 0 * 2 ^ k) % 2 ^ 8 / 2 ^ k)) (λ x b. b && leb k x)
+unfolding rowBit
+started-row k old hk h0 = record { size = length-set old 0 v; pixels = λ x l. by x (decLt x 8) }
+  where
+    v : ℕ
+    v = (getD old 0 0 * 2 ^ k) % 2 ^ 8 / 2 ^ k
+
+    by : (x : ℕ) → Dec (x < 8) → rowBit (set old 0 v) x ≡ (rowBit old x && leb k x)
+    by x (no m) =
+        rowBit-same (set old 0 v) old x (getD-set-other old 0 (x / 8) v 0 (λ e. omega arith))
+        ∙ and-true (rowBit old x) ∙ ap (λ (b : Bool). rowBit old x && b) (sym (le-leb k x (omega arith)))
+    by x (yes m) =
+        let q : x / 8 ≡ 0 = omega arith in
+        let z : x % 8 ≡ x = omega arith in
+        ap (λ (i : ℕ). bitOf (getD (set old 0 v) i 0) (x % 8)) q
+        ∙ ap (λ (n : ℕ). bitOf n (x % 8)) (getD-set-same old 0 v 0 h0)
+        ∙ started-bit (getD old 0 0) k (x % 8) hk (omega arith)
+        ∙ ap₂ _&&_ (sym (ap (λ (i : ℕ). bitOf (getD old i 0) (x % 8)) q)) (ap (leb k) z)

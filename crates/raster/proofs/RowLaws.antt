@@ -39,9 +39,9 @@ rowBit-win row q m hb h = by (decLt m 8)
         ap (rowBit row) e ∙ rowBit-at row (q + 1) (m - 8) (omega arith)
         ∙ sym (ap (λ (n : ℕ). eqb (win (getD row q 0) (getD row (q + 1) 0) n) 1) w ∙ win-right (getD row q 0) (getD row (q + 1) 0) (m - 8) hb (omega arith))
 
--- what the loop of `join_row` makes of the byte n at j
-abbrev pub joinedByte : Bool → ℕ → List ℕ → ℕ → ℕ → ℕ → ℕ → ℕ
-joinedByte t m buf o d j n = joinByte t n (bitXor (movedByte (getD buf (o + j) 0) (getD buf (o + j + 1) 0) d) m)
+-- what the loop of `move_rows` makes of the byte at j
+abbrev pub movedAt : List ℕ → ℕ → ℕ → ℕ → ℕ
+movedAt buf o d j = movedByte (getD buf (o + j) 0) (getD buf (o + j + 1) 0) d
 
 -- the bytes that a turn reads are bytes
 abbrev pub ReadBytes : List ℕ → ℕ → ℕ → Type 0
@@ -67,23 +67,25 @@ exchanged-bit : (i : Bool) (m b k : ℕ) → m ≡ exchangeByte i → k < 8 → 
 exchanged-bit true m b k e h = ap (λ (n : ℕ). bitOf (bitXor b n) k) e ∙ inverted-bit b k h
 exchanged-bit false m b k e h = ap (λ (n : ℕ). bitOf (bitXor b n) k) e ∙ ap (λ (n : ℕ). bitOf n k) (xor-zero-r b)
 
--- the end of `join_row`
-pub row-joined : (t i : Bool) (q : ℕ) (buf old new : List ℕ) (s n : ℕ) → q ≡ exchangeByte i → length old ≤ n
-    → Mapped (λ j. joinedByte t q buf (s / 8) (s % 8) j (getD old j 0)) old new n
-    → ((j : ℕ) → j < n → ReadBytes buf (s / 8) j) → RowJoined t old new (λ x. readBit i buf (x + s))
-row-joined t v q buf old new s n eq h m rd =
-    mapped-pixels old new (λ j. joinedByte t q buf (s / 8) (s % 8) j (getD old j 0)) (λ x b. join t b (readBit v buf (x + s))) n h m (λ i k hi hk.
+-- the end of `join_rows`
+pub rows-joined : (t i : Bool) (m : ℕ) (src old new : List ℕ) (n : ℕ) → m ≡ exchangeByte i → length old ≤ n
+    → Mapped (λ j. joinByte t (getD old j 0) (bitXor (getD src j 0) m)) old new n → RowJoined t old new (readBit i src)
+rows-joined t v q src old new n eq h m =
+    mapped-pixels old new (λ j. joinByte t (getD old j 0) (bitXor (getD src j 0) q)) (λ x b. join t b (readBit v src x)) n h m (λ i k hi hk.
+    join-bit t (getD old i 0) (bitXor (getD src i 0) q) k
+    ∙ ap (join t (bitOf (getD old i 0) k)) (exchanged-bit v q (getD src i 0) k eq hk ∙ ap (λ (c : Bool). cond v (not c) c) (sym (rowBit-at src i k hk))))
+
+-- the end of `move_rows`
+pub rows-moved : (buf old new : List ℕ) (s n : ℕ) → length old ≤ n → Mapped (movedAt buf (s / 8) (s % 8)) old new n
+    → ((j : ℕ) → j < n → ReadBytes buf (s / 8) j) → Pixelwise old new (λ x b. rowBit buf (x + s))
+rows-moved buf old new s n h m rd =
+    mapped-pixels old new (movedAt buf (s / 8) (s % 8)) (λ x b. rowBit buf (x + s)) n h m (λ i k hi hk.
     let o : ℕ = s / 8 in
     let d : ℕ = s % 8 in
-    let a : ℕ = getD buf (o + i) 0 in
-    let b : ℕ = getD buf (o + i + 1) 0 in
     let hb : ReadBytes buf o i = rd i hi in
     let hd : d < 8 = omega arith in
     let e : 8 * i + k + s ≡ 8 * (o + i) + (k + d) = omega arith in
-    join-bit t (getD old i 0) (bitXor (movedByte a b d) q) k
-    ∙ ap (join t (bitOf (getD old i 0) k))
-    (exchanged-bit v q (movedByte a b d) k eq hk
-    ∙ ap (λ (c : Bool). cond v (not c) c) (moved-bit a b d k (hb .0) (hb .1) hd hk ∙ sym (rowBit-win buf (o + i) (k + d) (hb .1) (omega arith)) ∙ sym (ap (rowBit buf) e))))
+    moved-bit (getD buf (o + i) 0) (getD buf (o + i + 1) 0) d k (hb .0) (hb .1) hd hk ∙ sym (rowBit-win buf (o + i) (k + d) (hb .1) (omega arith)) ∙ sym (ap (rowBit buf) e))
 
 -- the end of `subtract`
 pub row-subtracted : (src old new : List ℕ) (n : ℕ) → length old ≤ n → Mapped (λ j. bitAnd (getD old j 0) (bitXor (getD src j 0) 255)) old new n

@@ -3,7 +3,7 @@ ghost use mathlib.Core.Path.{_≡_};
 ghost use mathlib.Core.Bool.{_&&_, not};
 ghost use mathlib.Core.List.{_++_};
 ghost use Prim.Native.Nat.{ℕ, _+_, _*_, _<_, _≤_, _^_};
-ghost use lib.Dec.{ltb, eqb};
+ghost use lib.Dec.{leb, ltb, eqb};
 ghost use lib.ListN.{length, getD, replicate, take, drop};
 ghost use Rattle.morphology.specs.Image.{stride, isClean, onesOf, pixel as pixelOf};
 ghost use Rattle.morphology.specs.Lists.{any, all, upTo};
@@ -29,25 +29,42 @@ fn exchange(inverse: bool) -> u8
     0
 }
 
-// Joins pixel x + s of buf, inverted or not, to each pixel x of dst.
-pub fn join_row(dilating: bool, inverse: bool, buf: &[u8], s: u32, dst: &mut [u8])
+// Joins the pixels of src, inverted or not, to those of dst.
+pub fn join_rows(dilating: bool, inverse: bool, src: &[u8], dst: &mut [u8])
+    requires { ⌜ length (now dst) ≤ length (now src) ⌝ }
+    ensures { λ _. ⌜ RowJoined dilating (now (dst .entry)) (now (dst .exit)) (readBit inverse (now (src .entry))) ⌝ }
+{
+    let n = dst.len();
+    let m = exchange(inverse);
+    let mut i: usize = 0;
+    while i < n {
+        dst[i] = join(dilating, dst[i], src[i] ^ m);
+        i = i + 1;
+    }
+}
+
+// Each pixel x of dst becomes pixel x + s of buf.
+pub fn move_rows(buf: &[u8], s: u32, dst: &mut [u8])
     requires { ⌜ (s < 16) × (length (now dst) + 2 ≤ length (now buf)) ⌝ }
-    ensures { λ _. ⌜ RowJoined dilating (now (dst .entry)) (now (dst .exit)) (λ x. readBit inverse (now (buf .entry)) (x + s)) ⌝ }
+    ensures { λ _. ⌜ Pixelwise (now (dst .entry)) (now (dst .exit)) (λ x b. rowBit (now (buf .entry)) (x + s)) ⌝ }
 {
     let n = dst.len();
     let o = (s / 8) as usize;
     let d = s % 8;
     let e = 7 - d;
-    let m = exchange(inverse);
     let mut i: usize = 0;
     while i < n {
-        dst[i] = join(
-            dilating,
-            dst[i],
-            ((buf[o + i] << d) | (buf[o + i + 1] >> e >> 1)) ^ m,
-        );
+        dst[i] = (buf[o + i] << d) | (buf[o + i + 1] >> e >> 1);
         i = i + 1;
     }
+}
+
+// Clears the first k pixels of a row.
+pub fn clear_start(row: &mut [u8], k: u32)
+    requires { ⌜ (k < 8) × (0 < length (now row)) ⌝ }
+    ensures { λ _. ⌜ Pixelwise (now (row .entry)) (now (row .exit)) (λ x b. b && leb k x) ⌝ }
+{
+    row[0] = row[0] << k >> k;
 }
 
 // Clears the padding of a row: its pixels from w on.

@@ -1,12 +1,12 @@
 -- `planes::load_source` meets its contract.
-use borrow.Author.Needs.{needs}
+use denote.Ref.{now}
 use mathlib.Core.Bool.{Bool}
 use mathlib.Core.Path.{subst}
 use Prim.Native.Nat.{_*_, _≤_}
-use denote.Ref.{now}
 use lib.ListN.{length}
 use Rattle.planes.specs.Neighbours.{source}
-use Rattle.planes.proofs.ScatterLaws.{near-other, near-own}
+use Rattle.planes.proofs.StripLaws.{near-other, near-own}
+use borrow.Author.Needs.{needs}
 use Rattle.planes.proofs.load_source.Statement.{statement}
 use Rattle.planes.proofs.load_source.Tie as tie
 
@@ -14,7 +14,7 @@ load-near-requires : tie.Need-load-near-requires
 load-near-requires c κs =
     let s = c .before .before .before .before .before in
     let a = s .args in
-    (subst (λ (b : Bool). a .h * a .r ≤ length (source b (now (a .image)) (now (a .work)))) (c .before .if1 .taken) (s .pre .0), s .pre .1, s .pre .2)
+    (subst (λ (b : Bool). a .h * a .r ≤ length (source b (now (a .image)) (now (a .work)))) (c .before .if1 .taken) (s .pre .0), s .pre .1, s .pre .2, s .pre .3, s .pre .4)
 
 same-length : tie.Need-same-length
 same-length c = search needs
@@ -22,13 +22,13 @@ same-length c = search needs
 returns : tie.Need-returns
 returns c =
     let a = c .before .before .before .before .before .before .before .before .args in
-    near-own (a .own) (a .r) (a .h) (a .yk) (now (a .image)) (now (a .work)) _ (c .before .before .before .before .if1 .taken) (c .before .before .load-near .ensures)
+    near-own (a .own) (a .r) (a .h) (a .y) (a .n) (now (a .image)) (now (a .work)) _ (c .before .before .before .before .if1 .taken) (c .before .before .load-near .ensures)
 
 load-near-requires-2 : tie.Need-load-near-requires-2
 load-near-requires-2 c κs =
     let s = c .before .before .before .before .before in
     let a = s .args in
-    (subst (λ (b : Bool). a .h * a .r ≤ length (source b (now (a .image)) (now (a .work)))) (c .before .if1 .left) (s .pre .0), s .pre .1, s .pre .2)
+    (subst (λ (b : Bool). a .h * a .r ≤ length (source b (now (a .image)) (now (a .work)))) (c .before .if1 .left) (s .pre .0), s .pre .1, s .pre .2, s .pre .3, s .pre .4)
 
 same-length-2 : tie.Need-same-length-2
 same-length-2 c = search needs
@@ -36,7 +36,7 @@ same-length-2 c = search needs
 returns-2 : tie.Need-returns-2
 returns-2 c =
     let a = c .before .before .before .before .before .before .before .before .args in
-    near-other (a .own) (a .r) (a .h) (a .yk) (now (a .image)) (now (a .work)) _ (c .before .before .before .before .if1 .left) (c .before .before .load-near2 .ensures)
+    near-other (a .own) (a .r) (a .h) (a .y) (a .n) (now (a .image)) (now (a .work)) _ (c .before .before .before .before .if1 .left) (c .before .before .load-near2 .ensures)
 
 pub load-source-spec : {M : Type 1} → statement M
 load-source-spec =

@@ -8,11 +8,11 @@ use Rattle.planes.proofs.morph_plane.Tie as tie
 begin-plane-requires : tie.Need-begin-plane-requires
 begin-plane-requires c κs = search needs
 
-slice-aggregate-scatter-plane : tie.Need-slice-aggregate-scatter-plane
-slice-aggregate-scatter-plane c = search needs
+slice-aggregate-join-plane : tie.Need-slice-aggregate-join-plane
+slice-aggregate-join-plane c = search needs
 
-scatter-plane-requires : tie.Need-scatter-plane-requires
-scatter-plane-requires c κs = search needs
+join-plane-requires : tie.Need-join-plane-requires
+join-plane-requires c κs = search needs
 
 clear-rows-requires : tie.Need-clear-rows-requires
 clear-rows-requires c κs = search needs
@@ -24,15 +24,15 @@ returns : tie.Need-returns
 returns c =
     let s = c .before .before .before .before .before .before .before .before .before .before .before .before .before .before in
     let a = s .args in
-    plane-done (a .dilating) (a .p) (a .r) (a .h) (a .w) (a .element) _ (now (a .work)) _ _ _ (s .pre .0) (c .before .before .before .before .before .before .before .before .before .before .before .begin-plane .ensures) (c .before .before .before .before .before .before .scatter-plane .ensures) (c .before .before .clear-rows .ensures)
+    plane-done (a .dilating) (a .p) (a .r) (a .h) (a .w) (a .element) _ (now (a .work)) _ _ _ (s .pre .0) (c .before .before .before .before .before .before .before .before .before .before .before .begin-plane .ensures) (c .before .before .before .before .before .before .join-plane .ensures) (c .before .before .clear-rows .ensures)
 
 pub morph-plane-spec : {M : Type 1} → statement M
 morph-plane-spec =
     tie.close
     (tie.spec
     begin-plane-requires
-    slice-aggregate-scatter-plane
-    scatter-plane-requires
+    slice-aggregate-join-plane
+    join-plane-requires
     clear-rows-requires
     same-length
     returns)

@@ -27,7 +27,7 @@ sub-join-mask c =
 join-mask-requires : tie.Need-join-mask-requires
 join-mask-requires c κs =
     let s = c .before .before .before .before .before .before .before .before in
-    (omega (arith, s .pre .1), omega (arith, ap length (c .before .before .before .before .copy .ensures), s .pre .1), frame-row (s .pre .0) .3, s .pre .0 .down)
+    (omega (arith, s .pre .1), omega (arith, ap length (c .before .before .before .before .copy .ensures), s .pre .1), frame-row (s .pre .0) .2, frame-row (s .pre .0) .3, s .pre .0 .down)
 
 widen-requires-2 : tie.Need-widen-requires-2
 widen-requires-2 c κs =
@@ -37,7 +37,7 @@ widen-requires-2 c κs =
 join-mask-requires-2 : tie.Need-join-mask-requires-2
 join-mask-requires-2 c κs =
     let s = c .before .before .before .before .before .before .before .before .before .before .before .before .before in
-    (omega (arith, s .pre .1), omega (arith, s .pre .2, c .before .before .before .before .join-mask .ensures .size), frame-row (s .pre .0) .3, s .pre .0 .down)
+    (omega (arith, s .pre .1), omega (arith, s .pre .2, c .before .before .before .before .join-mask .ensures .size), frame-row (s .pre .0) .2, frame-row (s .pre .0) .3, s .pre .0 .down)
 
 same-length : tie.Need-same-length
 same-length c = search needs
