@@ -1,8 +1,8 @@
 -- Points joined to a plane, row by row.
 use mathlib.Core.Bool.{Bool, _&&_, _||_, cond, false, not, true}
-use mathlib.Core.List.{List, [], _++_, _∷_}
+use mathlib.Core.List.{List, [], _++_, _∷_, map, map-append}
 use mathlib.Core.Path.{_∙_, _≡_, ap, ap₂, refl, subst, sym}
-use Prim.Native.Nat.{_%_, _*_, _+_, _-_, _/_, _<_, _^_, _≤_, max, suc, zero, ℕ}
+use Prim.Native.Nat.{_%_, _*_, _+_, _-_, _/_, _<_, _^_, _≤_, max, suc, zero, zero-le, ℕ}
 use native.Mathlib.Decide.{decLt}
 use native.Mathlib.Nat.{add-suc, add-zero, mod-eq-of-lt, mul-assoc, suc-add, zero-add}
 use native.Mathlib.Numerals.{add-one}
@@ -29,7 +29,7 @@ use Rattle.raster.proofs.CountLaws.{any-suc, or-ink}
 use Rattle.raster.proofs.LoopLaws.{Mapped}
 use Rattle.raster.proofs.PartLaws.{pixelwise-part, row-same}
 use Rattle.raster.proofs.RowLaws.{mapped-pixels}
-use Rattle.labels.specs.Points.{isLabel, withPoints}
+use Rattle.labels.specs.Points.{greatestBelow, isLabel, withPoints}
 
 -- ---- the largest
 
@@ -41,6 +41,57 @@ greatest-append (b ∷ l) k = let q = greatest-append l k in omega arith
 pub greatest-more : (l : List ℕ) (i m : ℕ) → i < length l → m ≡ greatest (take i l) → max m (getD l i 0) ≡ greatest (take (i + 1) l)
 greatest-more l i m h e =
     ap (λ (n : ℕ). max n (getD l i 0)) e ∙ sym (ap (λ (n : ℕ). greatest (take n l)) (add-one i) ∙ ap greatest (take-suc l i 0 h) ∙ greatest-append (take i l) (getD l i 0))
+
+-- a part has no larger one
+pub greatest-take : (n : ℕ) (l : List ℕ) → greatest (take n l) ≤ greatest l
+unfolding greatest
+greatest-take zero l = zero-le
+greatest-take (suc n) [] = zero-le
+greatest-take (suc n) (k ∷ l) = omega (arith, greatest-take n l)
+
+pub greatest-drop : (n : ℕ) (l : List ℕ) → greatest (drop n l) ≤ greatest l
+unfolding greatest
+greatest-drop zero l = omega arith
+greatest-drop (suc n) [] = zero-le
+greatest-drop (suc n) (k ∷ l) = omega (arith, greatest-drop n l)
+
+-- ---- the largest below v
+
+pub under-lt : (b v : ℕ) → b < v → cond (ltb b v) b 0 ≡ b
+under-lt b v h = ap (λ (t : Bool). cond t b 0) (lt-ltb b v h)
+
+pub under-ge : (b v : ℕ) → v ≤ b → cond (ltb b v) b 0 ≡ 0
+under-ge b v h = ap (λ (t : Bool). cond t b 0) (le-ltb b v h)
+
+pub below-more : (v : ℕ) (l : List ℕ) (i m : ℕ) → i < length l → m ≡ greatestBelow v (take i l)
+    → max m (cond (ltb (getD l i 0) v) (getD l i 0) 0) ≡ greatestBelow v (take (i + 1) l)
+unfolding greatestBelow
+below-more v l i m h e =
+    let f : ℕ → ℕ = λ b. cond (ltb b v) b 0 in
+    ap (λ (n : ℕ). max n (f (getD l i 0))) e
+    ∙ sym (ap (λ (n : ℕ). greatestBelow v (take n l)) (add-one i) ∙ ap (greatestBelow v) (take-suc l i 0 h) ∙ ap greatest (map-append f (take i l) (getD l i 0 ∷ []))
+    ∙ greatest-append (map f (take i l)) (f (getD l i 0)))
+
+-- all are below
+below-all : (v : ℕ) (l : List ℕ) → greatest l < v → greatestBelow v l ≡ greatest l
+unfolding greatest greatestBelow
+below-all v [] h = refl
+below-all v (b ∷ l) h = ap₂ max (below-all v l (omega arith)) (under-lt b v (omega arith))
+
+-- a row's, at the largest label of all
+pub below-row : (W a : ℕ) (labels : List ℕ) → greatest (take W (drop a labels)) ≡ greatestBelow (greatest labels + 1) (take W (drop a labels))
+below-row W a labels = sym (below-all (greatest labels + 1) (take W (drop a labels)) (omega (arith, greatest-take W (drop a labels), greatest-drop a labels)))
+
+-- none is v: the same below v + 1 and below v
+pub below-same : (v : ℕ) (l : List ℕ) → greatestBelow (v + 1) l < v → greatestBelow (v + 1) l ≡ greatestBelow v l
+unfolding greatest greatestBelow
+below-same v [] h = refl
+below-same v (b ∷ l) h = ap₂ max (below-same v l (omega arith)) (by (decLt b v) (decLt b (v + 1)))
+  where
+    by : Dec (b < v) → Dec (b < v + 1) → cond (ltb b (v + 1)) b 0 ≡ cond (ltb b v) b 0
+    by (yes k) d = under-lt b (v + 1) (omega arith) ∙ sym (under-lt b v k)
+    by (no k) (yes j) = absurd (omega (arith, under-lt b (v + 1) j))
+    by (no k) (no j) = under-ge b (v + 1) (omega arith) ∙ sym (under-ge b v (omega arith))
 
 -- ---- a label of a row
 
@@ -178,14 +229,14 @@ labels-none row v old e = record { size = refl; pixels = λ x l. or-none (rowBit
     none x (yes l) = in-label row v x l ∙ no-label row x l e
     none x (no l) = past-label row v x (omega arith)
 
--- a row whose largest label is smaller
-pub labels-below : (row : List ℕ) (v : ℕ) (old : List ℕ) → greatest row < v → Pixelwise old old (λ x b. b || isLabel row v x)
-unfolding greatest
-labels-below row v old h = labels-none row v old (below row h)
+-- a row whose largest label up to v is smaller
+pub labels-below : (row : List ℕ) (v : ℕ) (old : List ℕ) → greatestBelow (v + 1) row < v → Pixelwise old old (λ x b. b || isLabel row v x)
+unfolding greatest greatestBelow
+labels-below row v old h = labels-none row v old (none row h)
   where
-    below : (l : List ℕ) → greatest l < v → any (λ b. eqb b v) l ≡ false
-    below [] h = refl
-    below (b ∷ l) h = ap₂ (λ (c d : Bool). c || d) (ne-eqb b v (λ e. omega arith)) (below l (omega arith))
+    none : (l : List ℕ) → greatestBelow (v + 1) l < v → any (λ b. eqb b v) l ≡ false
+    none [] h = refl
+    none (b ∷ l) h = ap₂ (λ (c d : Bool). c || d) (ne-eqb b v (λ e. omega (arith, under-lt b (v + 1) (omega arith)))) (none l (omega arith))
 
 -- ---- rows of a plane
 

@@ -7,6 +7,7 @@ use native.Mathlib.Nat.{min-le-left, mul-le-mul, suc-mul}
 use native.Mathlib.Omega.{arith}
 use lib.ListN.{drop, length, length-append, length-take, take}
 use Rattle.morphology.specs.Lists.{greatest}
+use Rattle.labels.proofs.PointLaws.{greatest-drop, greatest-take}
 use Rattle.listing.specs.Appended.{Room}
 use Rattle.listing.specs.Printed.{longest, refusalText, skeletonText}
 use Rattle.listing.specs.Text.{after, decimal, line, lineFeed, mapText, space, spaced}
@@ -46,18 +47,6 @@ unfolding line spaced greatest
 line-words W [] h k l = omega arith
 line-words W (n ∷ row) h k l =
     omega (arith, length-append (decimal n ++ after (words row)) (lineFeed ∷ []), length-append (decimal n) (after (words row)), three-digits n (omega arith), after-words row (omega arith))
-
-greatest-take : (n : ℕ) (l : List ℕ) → greatest (take n l) ≤ greatest l
-unfolding greatest
-greatest-take zero l = zero-le
-greatest-take (suc n) [] = zero-le
-greatest-take (suc n) (k ∷ l) = omega (arith, greatest-take n l)
-
-greatest-drop : (n : ℕ) (l : List ℕ) → greatest (drop n l) ≤ greatest l
-unfolding greatest
-greatest-drop zero l = omega arith
-greatest-drop (suc n) [] = zero-le
-greatest-drop (suc n) (k ∷ l) = omega (arith, greatest-drop n l)
 
 map-words : (W H : ℕ) (m : List ℕ) → 0 < W → greatest m < 1000 → length (mapText W H m) ≤ H * (4 * W)
 unfolding mapText

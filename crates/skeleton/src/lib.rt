@@ -3,7 +3,7 @@ mod bands;
 
 ghost use mathlib.Core.Path.{_≡_};
 ghost use mathlib.Core.List.{[], _∷_};
-ghost use Prim.Native.Nat.{_+_, _*_, _<_, _≤_};
+ghost use Prim.Native.Nat.{_+_, _*_, _-_, _<_, _≤_};
 ghost use lib.Dec.{T};
 ghost use lib.ListN.{length, replicate, take};
 ghost use Rattle.morphology.specs.Answers.{outcome};
@@ -276,7 +276,7 @@ pub fn decompose(
     }
 }
 
-// One size of a reconstruction: the first plane dilated, and the points with label v joined to it.
+// One size of a reconstruction: the first plane dilated, and the points with label v joined to it. tops holds each row's largest label not above v, and then that below v.
 fn grow(
     w: usize,
     h: usize,
@@ -285,11 +285,12 @@ fn grow(
     element: u32,
     v: u8,
     labels: &[u8],
-    tops: &[u8],
+    tops: &mut [u8],
     work: &mut [u8],
 )
-    requires { ⌜ Sheet w h r p × (2 * p ≤ length (now work)) × (0 < v) × (length (now labels) ≡ w * h) × T (isClean w h (now work)) × Tops w h (now labels) (now tops) × (h ≤ length (now tops)) ⌝ }
-    ensures { λ _. ⌜ First w h p (grown w h (offsets element) (now (labels .entry)) v (now (work .entry))) (now (work .entry)) (now (work .exit)) ⌝ }
+    requires { ⌜ Sheet w h r p × (2 * p ≤ length (now work)) × (0 < v) × (length (now labels) ≡ w * h) × T (isClean w h (now work)) × Tops w h v (now labels) (now tops) × (h ≤ length (now tops)) ⌝ }
+    ensures work { λ _. ⌜ First w h p (grown w h (offsets element) (now (labels .entry)) v (now (work .entry))) (now (work .entry)) (now (work .exit)) ⌝ }
+    ensures tops { λ _. ⌜ Tops w h (v - 1) (now (labels .entry)) (now (tops .exit)) ⌝ }
 {
     steps::dilate_times(w, h, r, p, element, 1, work);
     labels::points::add_points(labels, tops, w, h, r, v, &mut work[..p]);
@@ -316,7 +317,7 @@ fn gather(
     let mut tops = [0u8; 1024];
     labels::points::row_tops(labels, w, h, &mut tops);
     while cut < n {
-        grow(w, h, r, p, element, n as u8, labels, &tops, work);
+        grow(w, h, r, p, element, n as u8, labels, &mut tops, work);
         n = n - 1;
     }
 }

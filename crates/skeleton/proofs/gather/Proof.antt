@@ -1,11 +1,13 @@
 -- `skeleton::gather` meets its contract.
 use Rattle.skeleton.proofs.gather.Statement.{statement}
-use mathlib.Core.Path.{refl, sym}
-use Prim.Native.Nat.{_-_, _≤_, max}
+use mathlib.Core.Path.{_∙_, _≡_, ap, refl, sym}
+use Prim.Native.Nat.{_*_, _+_, _≤_, max, ℕ}
 use borrow.Author.Needs.{needs}
 use native.Mathlib.Omega.{arith}
 use denote.Ref.{now}
+use lib.ListN.{drop, length, take}
 use Rattle.morphology.specs.Element.{offsets}
+use Rattle.labels.specs.Points.{Tops, greatestBelow}
 use Rattle.steps.specs.Steps.{First}
 use Rattle.steps.proofs.StepLaws.{sheet-bytes}
 use Rattle.skeleton.specs.Gathered.{gathered}
@@ -13,11 +15,11 @@ use Rattle.skeleton.proofs.GatherLaws.{gathered-clean, gathered-last, g
 use Rattle.skeleton.proofs.gather.Tie as tie
 
 abbrev Inv-loop : tie.InvT-loop
-Inv-loop w h r p element cut labels work₀ n₀ tops work n =
-    (n ≤ 255) × First w h p (gathered w h (offsets element) labels (max n cut)) work₀ work
+Inv-loop w h r p element cut labels work₀ n₀ tops₀ work n tops =
+    (n ≤ 255) × First w h p (gathered w h (offsets element) labels (max n cut)) work₀ work × (length tops ≡ 1024) × Tops w h n labels tops
 
 abbrev μ-loop : tie.MeasureT-loop
-μ-loop w h r p element cut labels work₀ n₀ tops work n =
+μ-loop w h r p element cut labels work₀ n₀ tops₀ work n tops =
     n
 
 greatest-requires : tie.Need-greatest-requires Inv-loop μ-loop
@@ -48,7 +50,12 @@ loop-holds : tie.Need-loop-holds Inv-loop μ-loop
 loop-holds c =
     let s = c .before .before .before .before .before .before .before in
     let a = s .args in
-    (search needs, gathered-start (a .w) (a .h) (a .p) (a .element) (a .cut) (sheet-bytes (s .pre .0)) (now (a .labels)) (s .pre .2) (c .before .before .before .before .greatest .result) (now (a .work)) (c .before .before .before .before .greatest .ensures) (s .pre .3))
+    let g = c .before .before .before .before .greatest in (
+      search needs,
+      gathered-start (a .w) (a .h) (a .p) (a .element) (a .cut) (sheet-bytes (s .pre .0)) (now (a .labels)) (s .pre .2) (g .result) (now (a .work)) (g .ensures) (s .pre .3),
+      c .before .row-tops .kept .1 .1 .1 .0,
+      λ y l. c .before .row-tops .ensures y l ∙ ap (λ (n : ℕ). greatestBelow (n + 1) (take (a .w) (drop (y * a .w) (now (a .labels))))) (sym (g .ensures)),
+    )
 
 cast-grow : tie.Need-cast-grow Inv-loop μ-loop
 cast-grow c =
@@ -56,7 +63,7 @@ cast-grow c =
 
 slice-aggregate-grow : tie.Need-slice-aggregate-grow Inv-loop μ-loop
 slice-aggregate-grow c =
-    sym (c .before .before .before .before .row-tops .kept .1 .1 .1 .0)
+    sym (c .before .before .loop .inv .2)
 
 grow-requires : tie.Need-grow-requires Inv-loop μ-loop
 grow-requires c κs =
@@ -68,25 +75,27 @@ grow-requires c κs =
       omega (arith, c .before .before .loop-test .taken),
       s .pre .2 .places,
       gathered-clean (a .w) (a .h) (a .p) (a .element) (a .cut) (sheet-bytes (s .pre .0)) (now (a .labels)) (s .pre .2) (l .n) (now (a .work)) (l .work) (l .inv .1),
-      c .before .before .before .before .before .row-tops .ensures,
-      omega (arith, c .before .before .before .before .before .row-tops .kept .1 .1 .1 .0, s .pre .0 .frame .down),
+      l .inv .3,
+      omega (arith, l .inv .2, s .pre .0 .frame .down),
     )
 
 sub-n : tie.Need-sub-n Inv-loop μ-loop
 sub-n c =
-    omega (arith, c .before .before .before .before .before .loop-test .taken)
+    omega (arith, c .before .before .before .before .before .before .loop-test .taken)
 
 loop-less : tie.Need-loop-less Inv-loop μ-loop
 loop-less c =
-    omega (arith, c .before .before .before .before .before .loop-test .taken)
+    omega (arith, c .before .before .before .before .before .before .loop-test .taken)
 
 loop-again : tie.Need-loop-again Inv-loop μ-loop
 loop-again c =
-    let s = c .before .before .before .before .before .before .before .before .before .before .before .before .before .before in
+    let s = c .before .before .before .before .before .before .before .before .before .before .before .before .before .before .before in
     let a = s .args in
-    let l = c .before .before .before .before .before .before .loop in (
+    let l = c .before .before .before .before .before .before .before .loop in (
       omega (arith, l .inv .0),
-      gathered-more (a .w) (a .h) (a .p) (a .element) (a .cut) (sheet-bytes (s .pre .0)) (now (a .labels)) (s .pre .2) (l .n) (now (a .work)) (l .work) _ (c .before .before .before .before .before .loop-test .taken) (l .inv .1) (c .before .before .grow .ensures),
+      gathered-more (a .w) (a .h) (a .p) (a .element) (a .cut) (sheet-bytes (s .pre .0)) (now (a .labels)) (s .pre .2) (l .n) (now (a .work)) (l .work) _ (c .before .before .before .before .before .before .loop-test .taken) (l .inv .1) (c .before .before .before .grow .ensures .0),
+      c .before .before .before .grow .kept .1 .1 .1 .1 .1 .1 .1 .0 ∙ l .inv .2,
+      c .before .before .before .grow .ensures .1,
     )
 
 same-length : tie.Need-same-length Inv-loop μ-loop

@@ -20,14 +20,14 @@ slice-relend-prefix-add-points c = search needs
 
 slice-aggregate-add-points : tie.Need-slice-aggregate-add-points
 slice-aggregate-add-points c =
-    let s = c .before .before .before .before .before .before .before .before in
-    sym (length-take-le (s .args .p) _ (omega (arith, s .pre .1, c .before .before .before .dilate-times .ensures .size)))
+    let s = c .before .before .before .before .before .before .before .before .before in
+    sym (length-take-le (s .args .p) _ (omega (arith, s .pre .1, c .before .before .before .before .dilate-times .ensures .size)))
 
 add-points-requires : tie.Need-add-points-requires
 add-points-requires c κs =
-    let s = c .before .before .before .before .before .before .before .before in
+    let s = c .before .before .before .before .before .before .before .before .before in
     let a = s .args in
-    let e = c .before .before .before .dilate-times .ensures in
+    let e = c .before .before .before .before .dilate-times .ensures in
     let q = sheet-bytes (s .pre .0) in
     let on = dilated-on (a .w) (a .h) (offsets (a .element)) _ (imageSet (a .w) (a .h) (now (a .work))) (image-on (a .w) (a .h) (now (a .work))) in (
       s .pre .0 .frame,
@@ -42,12 +42,17 @@ add-points-requires c κs =
 same-length : tie.Need-same-length
 same-length c = search needs
 
+same-length-2 : tie.Need-same-length-2
+same-length-2 c = search needs
+
 returns : tie.Need-returns
 returns c =
-    let s = c .before .before .before .before .before .before .before .before .before .before .before in
+    let s = c .before .before .before .before .before .before .before .before .before .before .before .before .before .before in
     let a = s .args in
-    let on = dilated-on (a .w) (a .h) (offsets (a .element)) _ (imageSet (a .w) (a .h) (now (a .work))) (image-on (a .w) (a .h) (now (a .work))) in
-    joined-first (a .w) (a .h) (a .p) (sheet-bytes (s .pre .0)) _ on (now (a .work)) _ (s .pre .1) (c .before .before .before .before .before .before .dilate-times .ensures) (now (a .labels)) (a .v) _ (c .before .before .add-points .ensures)
+    let on = dilated-on (a .w) (a .h) (offsets (a .element)) _ (imageSet (a .w) (a .h) (now (a .work))) (image-on (a .w) (a .h) (now (a .work))) in (
+      joined-first (a .w) (a .h) (a .p) (sheet-bytes (s .pre .0)) _ on (now (a .work)) _ (s .pre .1) (c .before .before .before .before .before .before .before .before .before .dilate-times .ensures) (now (a .labels)) (a .v) _ (c .before .before .before .before .add-points .ensures .0),
+      c .before .before .before .before .add-points .ensures .1,
+    )
 
 pub grow-spec : {M : Type 1} → statement M
 grow-spec =
@@ -58,4 +63,5 @@ grow-spec =
     slice-aggregate-add-points
     add-points-requires
     same-length
+    same-length-2
     returns)

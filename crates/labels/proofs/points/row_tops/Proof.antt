@@ -9,6 +9,7 @@ use lib.ListN.{drop, take}
 use Rattle.morphology.specs.Lists.{greatest}
 use Rattle.raster.proofs.LoopLaws.{Mapped, mapped-more, mapped-none}
 use Rattle.raster.proofs.RowLaws.{row-in}
+use Rattle.labels.proofs.PointLaws.{below-row}
 use Rattle.labels.proofs.points.row_tops.Tie as tie
 
 abbrev Inv-loop : tie.InvT-loop
@@ -79,7 +80,8 @@ same-length c =
 
 returns : tie.Need-returns Inv-loop μ-loop
 returns c =
-    λ y l. c .before .loop .inv .1 .done y (omega (arith, c .loop-test .left))
+    let a = c .before .before .before .before .args in
+    λ y l. c .before .loop .inv .1 .done y (omega (arith, c .loop-test .left)) ∙ below-row (a .w) (y * a .w) (now (a .labels))
 
 pub row-tops-spec : {M : Type 1} → statement M
 row-tops-spec =
