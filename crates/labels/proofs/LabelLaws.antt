@@ -2,33 +2,35 @@
 use mathlib.Core.Bool.{Bool, _&&_, cond, false, not, true}
 use mathlib.Core.List.{List, _++_}
 use mathlib.Core.Path.{_∙_, _≡_, ap, ap₂, refl, subst, sym}
-use Prim.Native.Nat.{_%_, _*_, _+_, _-_, _/_, _<_, _≤_, suc, zero, ℕ}
+use Prim.Native.Nat.{_%_, _*_, _+_, _-_, _/_, _<_, _^_, _≤_, suc, zero, ℕ}
 use native.Mathlib.Decide.{decLt}
-use native.Mathlib.Nat.{add-assoc, add-zero, le-refl, mul-comm, mul-le-mul-right, not-suc-le-zero, suc-mul, zero-add, zero-mul}
+use native.Mathlib.Nat.{add-assoc, add-mul, add-sub-of-le, add-zero, le-refl, mul-comm, mul-le-mul-right, not-suc-le-zero, suc-mul, zero-add, zero-mul}
 use native.Mathlib.Numerals.{add-one}
 use native.Mathlib.Omega.{arith}
-use borrow.Author.Tests.{lt-ltb}
-use lib.Bits.{bitAnd, bitXor}
+use borrow.Author.Tests.{lt-ltb, ne-eqb}
+use lib.Bits.{and-high, bitAnd, bitXor}
+use lib.Count.{ones}
 use lib.Dec.{T, eqb, eqb→eq, ltb}
 use lib.IntN.{pos}
 use lib.ListN.{drop, getD, length, length-drop, take}
+use lib.Pow.{pow-pos}
 use lib.Seq.{getD-drop, getD-take, length-take-le}
 use Rattle.morphology.specs.Image.{bitOf, imageSet, pixel, stride}
-use Rattle.morphology.specs.Labels.{place}
+use Rattle.morphology.specs.Labels.{area, place}
 use Rattle.morphology.specs.Lists.{all, count, tabulate, upTo}
 use Rattle.morphology.specs.Point.{Point, at}
 use Rattle.morphology.proofs.CountLaws.{count-le, count-none, count-suc, digit}
 use Rattle.morphology.proofs.CoverLaws.{in-upTo, of-upTo}
 use Rattle.morphology.proofs.ImageLaws.{length-row}
 use Rattle.morphology.proofs.LabelLaws.{place-at}
-use Rattle.morphology.proofs.PlaneLaws.{area-last, area-start, area-turn, areaBelow}
-use Rattle.morphology.proofs.TestLaws.{all-out}
+use Rattle.morphology.proofs.PlaneLaws.{area-last, area-le, area-start, area-turn, areaBelow}
+use Rattle.morphology.proofs.TestLaws.{all-out, upto, upto-out}
 use Rattle.planes.proofs.SetLaws.{row-pixel}
 use Rattle.raster.specs.Rows.{rowBit}
-use Rattle.raster.proofs.ByteLaws.{less-bit}
+use Rattle.raster.proofs.ByteLaws.{below8, less-bit}
 use Rattle.raster.proofs.LoopLaws.{Mapped}
 use Rattle.raster.proofs.PartLaws.{part-back}
-use Rattle.labels.specs.Labelled.{Labelled, RowLabelled, lacking, leftAt}
+use Rattle.labels.specs.Labelled.{Labelled, RowLabelled, RowsLabelled, lacking, leftAt}
 
 -- a pixel after the first q bytes
 pub drop-bit : (q : ℕ) (s : List ℕ) (z w : ℕ) → w ≡ 8 * q + z → rowBit s w ≡ rowBit (drop q s) z
@@ -39,6 +41,26 @@ drop-bit q s z w e =
     ap₂ (λ (i k : ℕ). bitOf (getD s i 0) k) a m ∙ ap (λ (n : ℕ). bitOf n (z % 8)) (sym (getD-drop q s (z / 8) 0))
 
 -- ---- one pixel
+
+-- the test of one bit
+pub bit-test : (b x : ℕ) → x < 8 → not (eqb (bitAnd b (128 / 2 ^ x)) 0) ≡ bitOf b x
+unfolding bitOf
+bit-test b x h =
+    ap (λ (n : ℕ). not (eqb (bitAnd b n) 0)) (below8 (λ (x : ℕ). 128 / 2 ^ x ≡ 2 ^ (1 + (7 - x)) - 2 ^ (7 - x)) refl refl refl refl refl refl refl refl x h)
+    ∙ ap (λ (n : ℕ). not (eqb n 0)) (and-high b 1 (7 - x)) ∙ by (b / 2 ^ (7 - x) % 2) (2 ^ (7 - x)) (omega arith) (pow-pos (7 - x))
+  where
+    by : (d p : ℕ) → d < 2 → 0 < p → not (eqb (d * p) 0) ≡ eqb d 1
+    by zero p h l = ap (λ (n : ℕ). not (eqb n 0)) (zero-mul p)
+    by (suc zero) p h l = ap not (ne-eqb (1 * p) 0 (λ e. absurd (omega arith)))
+    by (suc (suc d)) p h l = absurd (omega arith)
+
+-- the ones among the first m pixels of a byte
+pub ones-first : (b m : ℕ) → b < 256 → m ≤ 8 → ones (b / 2 ^ (8 - m)) ≡ count (bitOf b) (upTo m)
+unfolding bitOf count ones tabulate
+ones-first b m hb hm =
+    eqb→eq (ones (b / 2 ^ (8 - m))) (count (bitOf b) (upTo m))
+    (upto-out (λ m. eqb (ones (b / 2 ^ (8 - m))) (count (bitOf b) (upTo m))) 9 m (omega arith)
+    (upto-out (λ b. upto (λ m. eqb (ones (b / 2 ^ (8 - m))) (count (bitOf b) (upTo m))) 9) 256 b hb tt))
 
 -- what the code makes of the two bytes
 pub left-byte : (s : List ℕ) (a b x : ℕ) → x < 8 → bitOf (bitAnd (getD s a 0) (bitXor (getD s b 0) 255)) x ≡ leftAt s a b x
@@ -96,11 +118,15 @@ row-blank at w f v old none = record {
   points = sym (count-none f (upTo w) (λ x m t. subst T (none x (of-upTo w m)) t));
 }
 
+-- what the test of two rows says
+pub same-bytes : (s : List ℕ) (a b r : ℕ) → all (λ i. eqb (getD s (a + i) 0) (getD s (b + i) 0)) (upTo r) ≡ true → (i : ℕ) → i < r → getD s (a + i) 0 ≡ getD s (b + i) 0
+same-bytes s a b r e i l =
+    eqb→eq (getD s (a + i) 0) (getD s (b + i) 0) (all-out (λ j. eqb (getD s (a + j) 0) (getD s (b + j) 0)) (subst T (sym e) tt) (in-upTo r i l))
+
 -- two rows that are the same
-pub row-same : (s : List ℕ) (a b r at w v : ℕ) (old : List ℕ) → w ≤ 8 * r → all (λ i. eqb (getD s (a + i) 0) (getD s (b + i) 0)) (upTo r) ≡ true
-    → RowLabelled at w (leftAt s a b) v old old 0
+pub row-same : (s : List ℕ) (a b r at w v : ℕ) (old : List ℕ) → w ≤ 8 * r → ((i : ℕ) → i < r → getD s (a + i) 0 ≡ getD s (b + i) 0) → RowLabelled at w (leftAt s a b) v old old 0
 unfolding rowBit
-row-same s a b r at w v old h e = row-blank at w (leftAt s a b) v old none
+row-same s a b r at w v old h f = row-blank at w (leftAt s a b) v old none
   where
     both : (c : Bool) → (c && not c) ≡ false
     both true = refl
@@ -108,8 +134,7 @@ row-same s a b r at w v old h e = row-blank at w (leftAt s a b) v old none
 
     none : (x : ℕ) → x < w → leftAt s a b x ≡ false
     none x l =
-        let t = all-out (λ i. eqb (getD s (a + i) 0) (getD s (b + i) 0)) (subst T (sym e) tt) (in-upTo r (x / 8) (omega arith)) in
-        let q = eqb→eq (getD s (a + x / 8) 0) (getD s (b + x / 8) 0) t in
+        let q = f (x / 8) (omega arith) in
         let ea : (8 * a + x) / 8 ≡ a + x / 8 = omega arith in
         let eb : (8 * b + x) / 8 ≡ b + x / 8 = omega arith in
         let ma : (8 * a + x) % 8 ≡ (8 * b + x) % 8 = omega arith in
@@ -180,19 +205,31 @@ left-on s a b x j e =
 
 -- ---- rows of a plane
 
-pub record LabelledTo (W H : ℕ) (S : Point → Bool) (v y : ℕ) (old new : List ℕ) (found : ℕ) : Type 0 where
-  pub size : length new ≡ length old
-  pub done : (i : ℕ) → i < y * W → getD new i 0 ≡ cond (S (place W i)) v (getD old i 0)
-  pub rest : (i : ℕ) → y * W ≤ i → getD new i 0 ≡ getD old i 0
-  pub points : found ≡ areaBelow W S (y * W)
+-- the points above row y
+area-above : (W : ℕ) (S : Point → Bool) (y : ℕ) → areaBelow W S (y * W) ≡ area W y S
+area-above W S y = ap (areaBelow W S) (mul-comm y W) ∙ area-last W y S
 
-pub labelled-none : (W H : ℕ) (S : Point → Bool) (v : ℕ) (old : List ℕ) → LabelledTo W H S v 0 old old 0
-labelled-none W H S v old = record {
-  size = refl;
-  done = λ i l. absurd (omega arith);
-  rest = λ i l. refl;
-  points = sym (ap (areaBelow W S) (zero-mul W) ∙ area-start W S);
-}
+pub rows-none : (W : ℕ) (S : Point → Bool) (v y : ℕ) (old : List ℕ) → RowsLabelled W S v y y old old 0
+rows-none W S v y old =
+    record { size = refl; before = λ i l. refl; after = λ i l. refl; places = λ i l h. absurd (omega arith); points = add-zero (area W y S) }
+
+-- rows y to k, and k to e
+pub rows-join : (W : ℕ) (S : Point → Bool) (v y k e : ℕ) (old u u′ : List ℕ) (n m : ℕ) → y ≤ k → k ≤ e
+    → RowsLabelled W S v y k old u n → RowsLabelled W S v k e u u′ m → RowsLabelled W S v y e old u′ (n + m)
+rows-join W S v y k e old u u′ n m hy he a b =
+    let ly : y * W ≤ k * W = mul-le-mul-right W hy in
+    let le : k * W ≤ e * W = mul-le-mul-right W he in
+    record {
+      size = b .size ∙ a .size;
+      before = λ i l. b .before i (omega arith) ∙ a .before i l;
+      after = λ i l. b .after i l ∙ a .after i (omega arith);
+      places = λ i l h. by i (decLt i (k * W)) l h;
+      points = omega (arith, a .points, b .points);
+    }
+  where
+    by : (i : ℕ) → Dec (i < k * W) → y * W ≤ i → i < e * W → getD u′ i 0 ≡ cond (S (place W i)) v (getD old i 0)
+    by i (yes l) g h = b .before i l ∙ a .places i g l
+    by i (no l) g h = b .places i (omega arith) h ∙ ap (λ (t : ℕ). cond (S (place W i)) v t) (a .after i (omega arith))
 
 -- the points of a row
 area-row : (W : ℕ) (S : Point → Bool) (f : ℕ → Bool) (y : ℕ) → ((x : ℕ) → x < W → f x ≡ S (at (pos x) (pos y))) → (x : ℕ) → x ≤ W
@@ -206,34 +243,39 @@ area-row W S f y e (suc x) h =
     ∙ add-assoc (areaBelow W S (y * W)) (count f (upTo x)) (digit (f x))
     ∙ ap (λ (k : ℕ). areaBelow W S (y * W) + k) (sym (ap (λ (k : ℕ). count f (upTo k)) (sym (add-one x)) ∙ count-more f x))
 
-pub labelled-more : (W H : ℕ) (S : Point → Bool) (v y : ℕ) (f : ℕ → Bool) (old u u′ : List ℕ) (n k : ℕ) → ((x : ℕ) → x < W → f x ≡ S (at (pos x) (pos y)))
-    → LabelledTo W H S v y old u n → RowLabelled (y * W) W f v u u′ k → LabelledTo W H S v (y + 1) old u′ (n + k)
-labelled-more W H S v y f old u u′ n k e a b =
+-- one row
+pub rows-one : (W : ℕ) (S : Point → Bool) (v y : ℕ) (f : ℕ → Bool) (old new : List ℕ) (n : ℕ) → ((x : ℕ) → x < W → f x ≡ S (at (pos x) (pos y)))
+    → RowLabelled (y * W) W f v old new n → RowsLabelled W S v y (y + 1) old new n
+rows-one W S v y f old new n e a =
     let z : (y + 1) * W ≡ y * W + W = ap (λ (i : ℕ). i * W) (add-one y) ∙ suc-mul y W in
     record {
-      size = b .size ∙ a .size;
-      done = λ i l. by i (decLt i (y * W)) (omega arith);
-      rest = λ i l. b .after i (omega arith) ∙ a .rest i (omega arith);
-      points = ap₂ (λ (p q : ℕ). p + q) (a .points) (b .points) ∙ sym (area-row W S f y e W (le-refl W)) ∙ ap (areaBelow W S) (sym z);
+      size = a .size;
+      before = a .before;
+      after = λ i l. a .after i (omega arith);
+      places = λ i l h. by i l (omega arith);
+      points =
+          ap₂ (λ (p q : ℕ). p + q) (sym (area-above W S y)) (a .points)
+          ∙ sym (area-row W S f y e W (le-refl W)) ∙ ap (areaBelow W S) (sym z) ∙ area-above W S (y + 1);
     }
   where
-    by : (i : ℕ) → Dec (i < y * W) → i < y * W + W → getD u′ i 0 ≡ cond (S (place W i)) v (getD old i 0)
-    by i (yes l) h = b .before i l ∙ a .done i l
-    by i (no l) h =
+    by : (i : ℕ) → y * W ≤ i → i < y * W + W → getD new i 0 ≡ cond (S (place W i)) v (getD old i 0)
+    by i l h =
         let x = i - y * W in
         let q : y * W + x ≡ i = omega arith in
         let hx : x < W = omega arith in
-        ap (λ (j : ℕ). getD u′ j 0) (sym q) ∙ b .places x hx
-        ∙ ap₂ (λ (c : Bool) (t : ℕ). cond c v t) (e x hx ∙ ap S (sym (place-at W x y hx))) (a .rest (y * W + x) (omega arith))
+        ap (λ (j : ℕ). getD new j 0) (sym q) ∙ a .places x hx
+        ∙ ap (λ (c : Bool). cond c v (getD old (y * W + x) 0)) (e x hx ∙ ap S (sym (place-at W x y hx)))
         ∙ ap (λ (j : ℕ). cond (S (place W j)) v (getD old j 0)) q
 
-pub labelled-done : (W H : ℕ) (S : Point → Bool) (v y : ℕ) (old new : List ℕ) (n : ℕ) → y ≡ H → length old ≡ W * H → LabelledTo W H S v y old new n → Labelled W H S v old new n
-labelled-done W H S v y old new n e h a =
-    let q : y * W ≡ W * H = ap (λ (i : ℕ). i * W) e ∙ mul-comm H W in
+-- all of them
+pub rows-labelled : (W H : ℕ) (S : Point → Bool) (v e : ℕ) (old new : List ℕ) (n : ℕ) → e ≡ H → length old ≡ W * H → RowsLabelled W S v 0 e old new n → Labelled W H S v old new n
+rows-labelled W H S v e old new n h z a =
+    let q : e * W ≡ W * H = ap (λ (i : ℕ). i * W) h ∙ mul-comm H W in
+    let o : area W 0 S ≡ 0 = sym (area-above W S 0) ∙ ap (areaBelow W S) (zero-mul W) ∙ area-start W S in
     record {
-      size = a .size ∙ h;
-      places = λ i l. a .done i (omega arith);
-      points = a .points ∙ ap (areaBelow W S) q ∙ area-last W H S;
+      size = a .size ∙ z;
+      places = λ i l. a .places i (omega (arith, zero-mul W)) (omega arith);
+      points = omega (arith, a .points) ∙ ap (λ (k : ℕ). area W k S) h;
     }
 
 -- a row of the two planes
@@ -248,8 +290,36 @@ left-lacking W H r q s e y x hy hx =
     dropped : rowBit s (8 * (q + y * r) + x) ≡ rowBit (drop q s) (8 * (y * r) + x)
     dropped = drop-bit q s (8 * (y * r) + x) (8 * (q + y * r) + x) (omega arith)
 
+-- the bytes of rows y to e
+pub block-bytes : (y e r : ℕ) → y ≤ e → y * r + (e - y) * r ≡ e * r
+block-bytes y e r h = sym (add-mul y (e - y) r) ∙ ap (λ (k : ℕ). k * r) (add-sub-of-le h)
+
+-- rows that are the same
+pub rows-same : (W H r q v : ℕ) (s old : List ℕ) (y e : ℕ) → r ≡ stride W → y ≤ e → e ≤ H
+    → ((i : ℕ) → i < (e - y) * r → getD s (y * r + i) 0 ≡ getD s (q + y * r + i) 0) → RowsLabelled W (lacking W H q s) v y e old old 0
+unfolding stride
+rows-same W H r q v s old y e hr hy he f =
+    subst (λ (k : ℕ). RowsLabelled W (lacking W H q s) v y k old old 0) (omega arith) (first (e - y) (le-refl (e - y)))
+  where
+    -- row y + j
+    row : (j : ℕ) → j < e - y → (i : ℕ) → i < r → getD s ((y + j) * r + i) 0 ≡ getD s (q + (y + j) * r + i) 0
+    row j l i h =
+        let b : j * r + r ≤ (e - y) * r = omega (arith, mul-le-mul-right r l, suc-mul j r) in
+        let z : (y + j) * r ≡ y * r + j * r = add-mul y j r in
+        let p : (y + j) * r + i ≡ y * r + (j * r + i) = omega arith in
+        let g : q + y * r + (j * r + i) ≡ q + (y + j) * r + i = omega arith in
+        ap (λ (k : ℕ). getD s k 0) p ∙ f (j * r + i) (omega arith) ∙ ap (λ (k : ℕ). getD s k 0) g
+
+    first : (j : ℕ) → j ≤ e - y → RowsLabelled W (lacking W H q s) v y (y + j) old old 0
+    first zero h = subst (λ (k : ℕ). RowsLabelled W (lacking W H q s) v y k old old 0) (sym (add-zero y)) (rows-none W (lacking W H q s) v y old)
+    first (suc j) h =
+        let z : (y + j) + 1 ≡ y + suc j = omega arith in
+        subst (λ (k : ℕ). RowsLabelled W (lacking W H q s) v y k old old 0) z
+        (rows-join W (lacking W H q s) v y (y + j) (y + j + 1) old old old 0 0 (omega arith) (omega arith) (first j (omega arith))
+        (rows-one W (lacking W H q s) v (y + j) (leftAt s ((y + j) * r) (q + (y + j) * r)) old old 0
+        (λ x l. left-lacking W H r q s hr (y + j) x (omega arith) l)
+        (row-same s ((y + j) * r) (q + (y + j) * r) r ((y + j) * W) W v old (omega arith) (row j (omega arith)))))
+
 -- few enough to count
-pub below-small : (W : ℕ) (S : Point → Bool) (y : ℕ) → W ≤ 1024 → y ≤ 1024 → areaBelow W S (y * W) ≤ 1048576
-unfolding areaBelow
-below-small W S y hw hy =
-    omega (arith, subst (λ (n : ℕ). count S (tabulate (place W) 0 (y * W)) ≤ n) (length-row (place W) 0 (y * W)) (count-le S (tabulate (place W) 0 (y * W))), mul-le-mul-right W hy)
+pub area-small : (W : ℕ) (S : Point → Bool) (y : ℕ) → W ≤ 1024 → y ≤ 1024 → area W y S ≤ 1048576
+area-small W S y hw hy = omega (arith, area-le W y S, mul-le-mul-right y hw)

@@ -26,6 +26,14 @@ pub record RowLabelled (at w : ℕ) (f : ℕ → Bool) (v : ℕ) (old new : List
 abbrev pub lacking : ℕ → ℕ → ℕ → List ℕ → (Point → Bool)
 lacking W H q s z = imageSet W H s z && not (imageSet W H (drop q s) z)
 
+-- of rows y to e, v at the places of S and the old label elsewhere; how many are v
+pub record RowsLabelled (W : ℕ) (S : Point → Bool) (v y e : ℕ) (old new : List ℕ) (found : ℕ) : Type 0 where
+  pub size : length new ≡ length old
+  pub before : (i : ℕ) → i < y * W → getD new i 0 ≡ getD old i 0
+  pub after : (i : ℕ) → e * W ≤ i → getD new i 0 ≡ getD old i 0
+  pub places : (i : ℕ) → y * W ≤ i → i < e * W → getD new i 0 ≡ cond (S (place W i)) v (getD old i 0)
+  pub points : area W y S + found ≡ area W e S
+
 -- v at the places of S, the old label elsewhere; how many they are
 pub record Labelled (W H : ℕ) (S : Point → Bool) (v : ℕ) (old new : List ℕ) (found : ℕ) : Type 0 where
   pub size : length new ≡ W * H

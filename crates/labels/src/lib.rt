@@ -4,19 +4,19 @@ pub mod wild;
 
 ghost use mathlib.Core.Path.{_≡_};
 ghost use mathlib.Core.Bool.{cond};
-ghost use Prim.Native.Nat.{_+_, _*_, _/_, _<_, _≤_};
+ghost use Prim.Native.Nat.{_+_, _*_, _/_, _<_, _≤_, ℕ};
 ghost use lib.ListN.{length};
 ghost use Rattle.morphology.specs.Image.{bitOf};
 ghost use Rattle.planes.specs.Frames.{Frame};
-ghost use Rattle.labels.specs.Labelled.{leftAt, lacking, RowLabelled, Labelled};
+ghost use Rattle.labels.specs.Labelled.{leftAt, lacking, RowLabelled, RowsLabelled, Labelled};
 
 // Whether pixel x of the eight of a byte is foreground.
 fn is_one(byte: u8, x: usize) -> bool
     requires { ⌜ x < 8 ⌝ }
     ensures { λ r. ⌜ r ≡ bitOf byte x ⌝ }
 {
-    let k = (7 - x) as u32;
-    (byte >> k) % 2 == 1
+    let bit = 128u8 >> (x as u32);
+    (byte & bit) != 0
 }
 
 fn chosen(left: bool, v: u8, old: u8) -> u8
@@ -28,29 +28,18 @@ fn chosen(left: bool, v: u8, old: u8) -> u8
     old
 }
 
-fn digit(left: bool) -> u32
-    ensures { λ r. ⌜ r ≡ cond left 1 0 ⌝ }
-{
-    if left {
-        return 1;
-    }
-    0
-}
-
 // v at each of at most eight labels whose pixel in a byte is foreground. Answers how many.
 fn label_few(byte: u8, v: u8, labels: &mut [u8]) -> u32
     requires { ⌜ length (now labels) ≤ 8 ⌝ }
     ensures { λ n. ⌜ RowLabelled 0 (length (now (labels .entry))) (bitOf byte) v (now (labels .entry)) (now (labels .exit)) n ⌝ }
 {
-    let mut n: u32 = 0;
     let mut x: usize = 0;
     while x < labels.len() {
-        let one = is_one(byte, x);
-        labels[x] = chosen(one, v, labels[x]);
-        n = n + digit(one);
+        labels[x] = chosen(is_one(byte, x), v, labels[x]);
         x = x + 1;
     }
-    n
+    let k = (8 - labels.len()) as u32;
+    u32::count_ones((byte as u32) >> k)
 }
 
 // The m labels from at on, of one byte of each plane; passed over where nothing is left.
@@ -95,6 +84,44 @@ fn label_line(s: &[u8], w: usize, r: usize, q: usize, y: usize, v: u8, labels: &
     label_bytes(s, a, b, y * w, w, v, labels)
 }
 
+// The row before which the block of rows that begins with row y ends: sixteen rows, or those that are left.
+fn block_end(y: usize, h: usize) -> usize
+    requires { ⌜ y < h ⌝ }
+    ensures { λ e. ⌜ (y < e) × (e ≤ h) ⌝ }
+{
+    if h - y < 16 {
+        return h;
+    }
+    y + 16
+}
+
+// Rows y to e of the first plane and of the plane at q; passed over at once where they are all the same.
+fn label_rows(
+    s: &[u8],
+    w: usize,
+    r: usize,
+    q: usize,
+    y: usize,
+    e: usize,
+    v: u8,
+    labels: &mut [u8],
+) -> u32
+    requires { ⌜ Frame w e r × (y ≤ e) × (e * r ≤ q) × (q + e * r ≤ length (now s)) × (e * w ≤ length (now labels)) ⌝ }
+    ensures { λ n. ⌜ ((h : ℕ) → e ≤ h → RowsLabelled w (lacking w h q (now (s .entry))) v y e (now (labels .entry)) (now (labels .exit)) n) ⌝ }
+{
+    let top = y * r;
+    if raster::same_rows(s, top, q + top, (e - y) * r) {
+        return 0;
+    }
+    let mut n: u32 = 0;
+    let mut i = y;
+    while i < e {
+        n = n + label_line(s, w, r, q, i, v, labels);
+        i = i + 1;
+    }
+    n
+}
+
 // v at each point of the first plane that the plane at q lacks. Answers how many.
 pub fn label_plane(
     s: &[u8],
@@ -111,8 +138,9 @@ pub fn label_plane(
     let mut n: u32 = 0;
     let mut y: usize = 0;
     while y < h {
-        n = n + label_line(s, w, r, q, y, v, labels);
-        y = y + 1;
+        let e = block_end(y, h);
+        n = n + label_rows(s, w, r, q, y, e, v, labels);
+        y = e;
     }
     n
 }

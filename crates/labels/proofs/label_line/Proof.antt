@@ -4,7 +4,7 @@ use Prim.Native.Nat.{_*_, _+_}
 use native.Mathlib.Omega.{arith}
 use borrow.Author.Needs.{needs}
 use denote.Ref.{now}
-use Rattle.labels.proofs.LabelLaws.{row-same}
+use Rattle.labels.proofs.LabelLaws.{row-same, same-bytes}
 use Rattle.labels.proofs.label_line.Statement.{statement}
 use Rattle.labels.proofs.label_line.Tie as tie
 
@@ -21,7 +21,8 @@ returns : tie.Need-returns
 returns c =
     let s = c .before .before .before .before in
     let a = s .args in
-    row-same (now (a .s)) (a .y * a .r) (a .q + a .y * a .r) (a .r) (a .y * a .w) (a .w) (a .v) (now (a .labels)) (omega (arith, s .pre .0)) (sym (c .before .same-rows .ensures) ∙ c .if1 .taken)
+    row-same (now (a .s)) (a .y * a .r) (a .q + a .y * a .r) (a .r) (a .y * a .w) (a .w) (a .v) (now (a .labels)) (omega (arith, s .pre .0))
+    (same-bytes (now (a .s)) (a .y * a .r) (a .q + a .y * a .r) (a .r) (sym (c .before .same-rows .ensures) ∙ c .if1 .taken))
 
 mul-label-bytes : tie.Need-mul-label-bytes
 mul-label-bytes c = search needs
