@@ -1,5 +1,5 @@
 pub mod NeighbourLaws
-pub mod ScatterLaws
+pub mod JoinLaws
 pub mod StripLaws
 pub mod CentreLaws
 pub mod SetLaws

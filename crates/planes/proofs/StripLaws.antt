@@ -18,7 +18,7 @@ use Rattle.raster.proofs.PartLaws.{PartIs, cut-bit, part-back, part-bit, pixelw
 use Rattle.raster.proofs.RowLaws.{row-in, rowBit-same}
 use Rattle.planes.specs.Neighbours.{Moved, NearRows, PlaneIs, PlaneJoined, columnOf, fiveOf, isWithin, joined, nearBit, neighbours, rowsBit, source, sourceBit, stripBit, turned}
 use Rattle.planes.proofs.NeighbourLaws.{join-assoc, joined-more, joined-same, joined-swap, joined-unit, near-same, row-kept, turned-lt, zeros-bit}
-use Rattle.planes.proofs.ScatterLaws.{plane-kept, plane-more, plane-same, rows-more}
+use Rattle.planes.proofs.JoinLaws.{plane-kept, plane-more, plane-same, rows-more}
 
 -- ---- numbers
 

@@ -9,7 +9,7 @@ use lib.Seq.{length-take-le}
 use Rattle.raster.specs.Rows.{rowBit}
 use Rattle.raster.proofs.RowLaws.{row-in}
 use Rattle.planes.specs.Neighbours.{PlaneIs, isWithin}
-use Rattle.planes.proofs.ScatterLaws.{rows-none}
+use Rattle.planes.proofs.JoinLaws.{rows-none}
 use Rattle.planes.proofs.StripLaws.{rows-cleared}
 use Rattle.planes.proofs.clear_ends.Statement.{statement}
 use Rattle.planes.proofs.clear_ends.Tie as tie

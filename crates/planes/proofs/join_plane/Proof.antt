@@ -5,7 +5,7 @@ use mathlib.Core.Path.{_≡_, subst}
 use Prim.Native.Nat.{_*_, _-_, _≤_, ℕ}
 use lib.ListN.{length, length-replicate}
 use Rattle.planes.specs.Neighbours.{PlaneJoined, neighbours, source, sourceBit}
-use Rattle.planes.proofs.ScatterLaws.{source-fits}
+use Rattle.planes.proofs.JoinLaws.{source-fits}
 use Rattle.planes.proofs.StripLaws.{plane-next, plane-start, strip-rows}
 use Rattle.planes.proofs.join_plane.Statement.{statement}
 use Rattle.planes.proofs.join_plane.Tie as tie

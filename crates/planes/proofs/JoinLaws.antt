@@ -1,4 +1,4 @@
--- A plane made row by row of the source: each row is joined to all that ask for it.
+-- Planes to which pixels are joined, and planes changed row by row.
 use mathlib.Core.Bool.{Bool, _&&_, cond, false, not, true}
 use mathlib.Core.List.{List, _++_}
 use mathlib.Core.Path.{_∙_, _≡_, ap, refl, sym}
