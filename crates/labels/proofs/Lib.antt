@@ -1,3 +1,1 @@
 pub mod LabelLaws
-pub mod PointLaws
-pub mod WildLaws

@@ -1,3 +1,1 @@
 pub mod Labelled
-pub mod Points
-pub mod Wild

@@ -1,6 +1,4 @@
 // Label buffers beside planes: labels written where one plane has a point that another lacks.
-pub mod points;
-pub mod wild;
 
 ghost use mathlib.Core.Path.{_≡_};
 ghost use mathlib.Core.Bool.{cond};

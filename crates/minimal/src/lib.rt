@@ -43,7 +43,7 @@ fn minimise_refusal(
     if shape != 0 {
         return shape;
     }
-    let wild = labels::wild::is_wild(w as usize, h as usize, element, 0, labels);
+    let wild = wild::is_wild(w as usize, h as usize, element, 0, labels);
     refusals::row(5, wild)
 }
 

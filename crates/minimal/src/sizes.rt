@@ -84,7 +84,7 @@ pub fn tallest(labels: &[u8]) -> usize
     requires { ⌜ 0 < length (now labels) ⌝ }
     ensures { λ a. ⌜ (a < length (now (labels .entry))) × (getD (now (labels .entry)) a 0 ≡ greatest (now (labels .entry))) ⌝ }
 {
-    let top = labels::points::greatest(labels);
+    let top = points::greatest(labels);
     places::next_place(labels, top, 0)
 }
 

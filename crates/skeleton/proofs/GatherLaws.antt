@@ -28,7 +28,7 @@ use Rattle.morphology.proofs.RefusalLaws.{T-of-not, first-out, fits-plane, thre
 use Rattle.morphology.specs.Operations.{reconstructRows}
 use Rattle.morphology.specs.Refusals.{Row, firstRefusal, notPlaces, notPlane, row1, row2, row3, row5, row7, shortWork}
 use Rattle.refusals.proofs.SideLaws.{Sides, sides-frame, sides-of}
-use Rattle.labels.specs.Points.{withPoints}
+use Rattle.points.specs.Points.{withPoints}
 use Rattle.raster.specs.Rows.{overwrite}
 use Rattle.raster.proofs.PartLaws.{overwrite-all}
 use Rattle.steps.specs.Steps.{First, Sheet, dilated}

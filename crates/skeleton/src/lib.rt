@@ -14,7 +14,7 @@ ghost use Rattle.morphology.specs.Operations.{cleared, eroded, opened, decompos
 ghost use Rattle.morphology.specs.Refusals.{firstRefusal, notPlane, shortWork, row1, row2, row3, row4};
 ghost use Rattle.morphology.specs.Skeleton.{reconstruction};
 ghost use Rattle.planes.specs.Frames.{Frame};
-ghost use Rattle.labels.specs.Points.{Tops};
+ghost use Rattle.points.specs.Points.{Tops};
 ghost use Rattle.steps.specs.Steps.{First, Sheet, Wrote, Ready};
 ghost use Rattle.skeleton.specs.Gathered.{Kept, Tame, gathered, grown};
 ghost use Rattle.skeleton.specs.Bands.{Banded};
@@ -293,7 +293,7 @@ fn grow(
     ensures tops { λ _. ⌜ Tops w h (v - 1) (now (labels .entry)) (now (tops .exit)) ⌝ }
 {
     steps::dilate_times(w, h, r, p, element, 1, work);
-    labels::points::add_points(labels, tops, w, h, r, v, &mut work[..p]);
+    points::add_points(labels, tops, w, h, r, v, &mut work[..p]);
 }
 
 // The sizes from the largest down to the cut, gathered in an empty first plane.
@@ -310,12 +310,12 @@ fn gather(
     requires { ⌜ Sheet w h r p × (2 * p ≤ length (now work)) × Tame w h element cut (now labels) × (take p (now work) ≡ replicate p 0) ⌝ }
     ensures { λ _. ⌜ First w h p (gathered w h (offsets element) (now (labels .entry)) cut) (now (work .entry)) (now (work .exit)) ⌝ }
 {
-    let mut n = labels::points::greatest(labels) as u32;
+    let mut n = points::greatest(labels) as u32;
     if n <= cut {
         return;
     }
     let mut tops = [0u8; 1024];
-    labels::points::row_tops(labels, w, h, &mut tops);
+    points::row_tops(labels, w, h, &mut tops);
     while cut < n {
         grow(w, h, r, p, element, n as u8, labels, &mut tops, work);
         n = n - 1;
@@ -362,7 +362,7 @@ fn reconstruct_refusal(
     if shape != 0 {
         return shape;
     }
-    let wild = labels::wild::is_wild(w as usize, h as usize, element, cut, labels);
+    let wild = wild::is_wild(w as usize, h as usize, element, cut, labels);
     let leaves = refusals::row(5, wild);
     let over = refusals::row(7, refusals::above_max(cut));
     refusals::first(leaves, over)

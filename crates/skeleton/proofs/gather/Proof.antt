@@ -7,7 +7,7 @@ use native.Mathlib.Omega.{arith}
 use denote.Ref.{now}
 use lib.ListN.{drop, length, take}
 use Rattle.morphology.specs.Element.{offsets}
-use Rattle.labels.specs.Points.{Tops, greatestBelow}
+use Rattle.points.specs.Points.{Tops, greatestBelow}
 use Rattle.steps.specs.Steps.{First}
 use Rattle.steps.proofs.StepLaws.{sheet-bytes}
 use Rattle.skeleton.specs.Gathered.{gathered}
