@@ -1,18 +1,23 @@
--- An element without its origin, and what the origin asks.
-use mathlib.Core.Bool.{Bool, cond, false, not, true}
-use mathlib.Core.List.{List}
+-- An element without its origin, and what the origin asks; a plane begun, joined and cut off.
+use mathlib.Core.Bool.{Bool, _&&_, cond, false, not, true}
+use mathlib.Core.List.{List, _++_}
 use mathlib.Core.Path.{_∙_, _≡_, ap, ap₂, refl, sym}
 use Prim.Native.Nat.{_%_, _*_, _+_, _-_, _/_, _<_, _^_, _≤_, suc, zero, ℕ}
 use native.Mathlib.Decide.{decLt}
 use native.Mathlib.Nat.{le-refl}
 use native.Mathlib.Omega.{arith}
 use borrow.Author.Tests.{le-leb, lt-ltb}
-use lib.Dec.{eqb}
+use lib.Dec.{eqb, ltb}
+use lib.ListN.{drop, getD-replicate, length, length-replicate, replicate, take}
 use Rattle.morphology.specs.Element.{bit}
+use Rattle.morphology.specs.Image.{bitOf}
 use Rattle.raster.specs.Rows.{RowIs, join, rowBit}
+use Rattle.raster.proofs.ByteLaws.{full-bit}
+use Rattle.raster.proofs.PartLaws.{PartIs, part-back, part-bit}
 use Rattle.raster.proofs.RowLaws.{row-in}
-use Rattle.planes.specs.Neighbours.{Begun, PlaneIs, fiveOf, joined, nearBit, neighbours, turned}
-use Rattle.planes.proofs.NeighbourLaws.{join-assoc, join-comm, join-unit, joined-same, unit-join}
+use Rattle.strips.specs.Neighbours.{PlaneIs, PlaneJoined, fiveOf, joined, nearBit, neighbours, turned}
+use Rattle.planes.specs.Begun.{Begun, RowsTo, startByte}
+use Rattle.strips.proofs.NeighbourLaws.{join-assoc, join-comm, join-unit, joined-same, near-same, unit-join, zeros-bit}
 
 -- v joined at q alone
 joined-add : (t : Bool) (n q : ℕ) (v : Bool) (f g : ℕ → Bool) → q < n → ((i : ℕ) → i < n → (i ≡ q → ⊥) → f i ≡ g i) → f q ≡ join t v (g q)
@@ -158,4 +163,47 @@ begun-start t p r h e old new m = record {
   after = m .after;
   pixels = λ y x ly lx.
       ap (λ (b : Bool). join t b (neighbours t e (nearBit old r h) x y)) (m .pixels y x ly lx) ∙ unit-join t (neighbours t e (nearBit old r h) x y);
+}
+
+-- ---- begun with what changes nothing
+
+full-row : (n x : ℕ) → x < 8 * n → rowBit (replicate n 255) x ≡ true
+unfolding rowBit
+full-row n x h = ap (λ (v : ℕ). bitOf v (x % 8)) (getD-replicate n (x / 8) 255 0 (omega arith)) ∙ full-bit (x % 8) (omega arith)
+
+pub start-bit : (t : Bool) (n x : ℕ) → x < 8 * n → rowBit (replicate n (startByte t)) x ≡ not t
+start-bit true n x h = zeros-bit n x
+start-bit false n x h = full-row n x h
+
+-- h rows of r bytes, a part of k bytes, begun
+pub plane-started : (t : Bool) (p r h k n v : ℕ) (old ys : List ℕ) → k ≡ h * r → p + h * r ≤ length old → n ≡ k → v ≡ startByte t → ys ≡ replicate n v
+    → PlaneIs p r h old (take p old ++ (ys ++ drop k (drop p old))) (λ y x. not t)
+plane-started t p r h k n v old ys q hp hn hv m =
+    let a : PartIs p k old ys (take p old ++ (ys ++ drop k (drop p old))) = part-back p k old ys (omega arith) (ap length m ∙ length-replicate {A = ℕ} n v ∙ hn) in
+    record {
+      size = a .size;
+      before = a .before;
+      after = λ j l. a .after j (omega arith);
+      pixels = λ y x ly lx.
+          let i = row-in y h r (h * r) ly (le-refl (h * r)) in
+          let z : 8 * (p + y * r) + x ≡ 8 * p + (8 * (y * r) + x) = omega arith in
+          ap (rowBit (take p old ++ (ys ++ drop k (drop p old)))) z ∙ part-bit a (8 * (y * r) + x) (omega (arith, i))
+          ∙ ap (λ (s : List ℕ). rowBit s (8 * (y * r) + x)) (m ∙ ap (replicate n) hv) ∙ start-bit t n (8 * (y * r) + x) (omega (arith, i));
+    }
+
+-- a plane begun, joined and cut off
+pub plane-done : (t : Bool) (p r h w e rest : ℕ) (v₀ v₁ v₂ v₃ : List ℕ) → h * r ≤ p → Begun t p r h e rest v₀ v₁
+    → PlaneJoined t p r h v₁ v₂ (λ y x. neighbours t rest (nearBit v₁ r h) x y)
+    → PlaneIs p r h v₂ v₃ (λ y x. rowBit v₂ (8 * (p + y * r) + x) && ltb x w)
+    → RowsTo t h p w r h e v₀ v₃
+plane-done t p r h w e rest v₀ v₁ v₂ v₃ hp a b c = record {
+  size = c .size ∙ b .size ∙ a .size;
+  before = λ j z. c .before j z ∙ b .before j z ∙ a .before j z;
+  after = λ j z. c .after j z ∙ b .after j z ∙ a .after j z;
+  pixels = λ y x l k.
+      c .pixels y x l k
+      ∙ ap (λ (n : Bool). n && ltb x w)
+      (b .pixels y x l k
+      ∙ (λ i. join t (rowBit v₁ (8 * (p + y * r) + x)) (neighbours t rest (λ X Y. near-same v₁ v₀ r h (λ j z. a .before j (omega arith)) X Y i) x y))
+      ∙ a .pixels y x l k);
 }

@@ -1,6 +1,3 @@
-pub mod NeighbourLaws
-pub mod JoinLaws
-pub mod StripLaws
 pub mod CentreLaws
 pub mod SetLaws
 pub mod PlaneLaws

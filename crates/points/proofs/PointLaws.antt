@@ -21,8 +21,8 @@ use Rattle.morphology.specs.Point.{at}
 use Rattle.morphology.proofs.CountLaws.{digit}
 use Rattle.morphology.proofs.ImageLaws.{bit-fromBits, bits-of, fromBits-lt}
 use Rattle.planes.proofs.SetLaws.{pixel-image, row-pixel}
-use Rattle.planes.proofs.JoinLaws.{rows-more}
-use Rattle.planes.specs.Neighbours.{PlaneIs}
+use Rattle.strips.proofs.JoinLaws.{rows-more}
+use Rattle.strips.specs.Neighbours.{PlaneIs}
 use Rattle.raster.specs.Rows.{Pixelwise, RowIs, rowBit}
 use Rattle.raster.proofs.ByteLaws.{below8, join-bit}
 use Rattle.raster.proofs.CountLaws.{any-suc, or-ink}

@@ -86,8 +86,8 @@ fn hit_plane(w: usize, h: usize, r: usize, fg: u32, bg: u32, image: &[u8], out: 
     ensures { λ _. ⌜ now (out .exit) ≡ pack w h (hit (fg, bg) (imageSet w h (now (image .entry)))) ⌝ }
 {
     raster::copy(image, out);
-    planes::join_mask(false, image, out, r, h, widen(fg) - ORIGIN);
-    planes::join_mask(true, image, out, r, h, widen(bg));
+    strips::join_mask(false, image, out, r, h, widen(fg) - ORIGIN);
+    strips::join_mask(true, image, out, r, h, widen(bg));
 }
 
 // Row 6: a mask has a bit above 8, lacks the centre in the foreground, or its two numbers overlap.

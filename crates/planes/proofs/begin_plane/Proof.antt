@@ -6,8 +6,7 @@ use borrow.Author.Needs.{needs}
 use denote.Ref.{now}
 use lib.ListN.{drop, length-drop}
 use lib.Seq.{length-take-le}
-use Rattle.planes.proofs.CentreLaws.{begun-copy, begun-start}
-use Rattle.planes.proofs.JoinLaws.{plane-started}
+use Rattle.planes.proofs.CentreLaws.{begun-copy, begun-start, plane-started}
 use Rattle.planes.proofs.begin_plane.Statement.{statement}
 use Rattle.planes.proofs.begin_plane.Tie as tie
 

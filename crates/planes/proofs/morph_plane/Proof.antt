@@ -1,7 +1,7 @@
 -- `planes::morph_plane` meets its contract.
 use borrow.Author.Needs.{needs}
 use denote.Ref.{now}
-use Rattle.planes.proofs.JoinLaws.{plane-done}
+use Rattle.planes.proofs.CentreLaws.{plane-done}
 use Rattle.planes.proofs.morph_plane.Statement.{statement}
 use Rattle.planes.proofs.morph_plane.Tie as tie
 

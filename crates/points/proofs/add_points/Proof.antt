@@ -8,9 +8,9 @@ use native.Mathlib.Omega.{arith}
 use denote.Ref.{now}
 use lib.ListN.{drop, getD, length, length-drop, take}
 use lib.Seq.{length-take-le}
-use Rattle.planes.specs.Neighbours.{PlaneIs}
+use Rattle.strips.specs.Neighbours.{PlaneIs}
 use Rattle.planes.proofs.PlaneLaws.{frame-row, plane-packed}
-use Rattle.planes.proofs.JoinLaws.{rows-none}
+use Rattle.strips.proofs.JoinLaws.{rows-none}
 use Rattle.raster.specs.Rows.{rowBit}
 use Rattle.raster.proofs.LoopLaws.{Mapped, mapped-more, mapped-none}
 use Rattle.raster.proofs.RowLaws.{row-in}

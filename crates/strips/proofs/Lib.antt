@@ -1,0 +1,3 @@
+pub mod NeighbourLaws
+pub mod JoinLaws
+pub mod StripLaws
