@@ -1,7 +1,7 @@
 // The band of rows that still holds ink.
 ghost use Prim.Native.Nat.{_*_, _≤_};
 ghost use lib.ListN.{length};
-ghost use Rattle.skeleton.specs.Bands.{FirstRow, EndRow};
+ghost use Rattle.turns.specs.Bands.{FirstRow, EndRow};
 
 // The first row of r bytes from row from on that has ink; to if there is none before it.
 pub fn first_row(s: &[u8], r: usize, from: usize, to: usize) -> usize

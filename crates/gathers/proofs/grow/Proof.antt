@@ -1,4 +1,4 @@
--- `skeleton::grow` meets its contract.
+-- `gathers::grow` meets its contract.
 use borrow.Author.Needs.{needs}
 use mathlib.Core.Path.{sym}
 use native.Mathlib.Omega.{arith}
@@ -8,9 +8,9 @@ use Rattle.morphology.specs.Element.{offsets}
 use Rattle.morphology.specs.Image.{imageSet}
 use Rattle.morphology.proofs.ImageLaws.{image-on}
 use Rattle.steps.proofs.StepLaws.{dilated-on, sheet-bytes}
-use Rattle.skeleton.proofs.GatherLaws.{joined-first, part-clean, taken}
-use Rattle.skeleton.proofs.grow.Statement.{statement}
-use Rattle.skeleton.proofs.grow.Tie as tie
+use Rattle.gathers.proofs.GatherLaws.{joined-first, part-clean, taken}
+use Rattle.gathers.proofs.grow.Statement.{statement}
+use Rattle.gathers.proofs.grow.Tie as tie
 
 dilate-times-requires : tie.Need-dilate-times-requires
 dilate-times-requires c κs = search needs

@@ -1,4 +1,4 @@
--- `skeleton::decompose_into` meets its contract.
+-- `turns::decompose_into` meets its contract.
 use mathlib.Core.Path.{_∙_, ap, sym}
 use Prim.Native.Nat.{_*_, _+_, _/_, ℕ}
 use native.Mathlib.Omega.{arith}
@@ -6,10 +6,10 @@ use borrow.Author.Needs.{needs}
 use denote.Ref.{now}
 use lib.ListN.{replicate}
 use lib.Seq.{length-take-le}
-use Rattle.skeleton.proofs.TurnLaws.{finished-as}
+use Rattle.turns.proofs.TurnLaws.{finished-as}
 use Rattle.steps.proofs.StepLaws.{loaded, ready-sheet, rest-cleared, sheet-bytes, sheet-small}
-use Rattle.skeleton.proofs.decompose_into.Statement.{statement}
-use Rattle.skeleton.proofs.decompose_into.Tie as tie
+use Rattle.turns.proofs.decompose_into.Statement.{statement}
+use Rattle.turns.proofs.decompose_into.Tie as tie
 
 add-r : tie.Need-add-r
 add-r c = search needs

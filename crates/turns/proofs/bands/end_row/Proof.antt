@@ -1,34 +1,37 @@
--- `skeleton::bands::first_row` meets its contract.
+-- `turns::bands::end_row` meets its contract.
 use Prim.Native.Nat.{_*_, _+_, _-_, _<_, _≤_, ℕ}
 use mathlib.Core.Path.{_∙_, sym}
 use native.Mathlib.Omega.{arith}
 use borrow.Author.Needs.{needs}
 use denote.Ref.{now}
 use Rattle.raster.proofs.RowLaws.{row-in}
-use Rattle.skeleton.specs.Bands.{BlankRow}
-use Rattle.skeleton.proofs.BandLaws.{blank-more, row-blank, row-ink}
-use Rattle.skeleton.proofs.bands.first_row.Statement.{statement}
-use Rattle.skeleton.proofs.bands.first_row.Tie as tie
+use Rattle.turns.specs.Bands.{BlankRow}
+use Rattle.turns.proofs.BandLaws.{blank-less, row-blank, row-ink}
+use Rattle.turns.proofs.bands.end_row.Statement.{statement}
+use Rattle.turns.proofs.bands.end_row.Tie as tie
 
 abbrev Inv-loop : tie.InvT-loop
-Inv-loop s r from to y₀ y = (from ≤ y) × (y ≤ to) × ((k : ℕ) → from ≤ k → k < y → BlankRow r s k)
+Inv-loop s r from to end₀ end = (from ≤ end) × (end ≤ to) × ((k : ℕ) → end ≤ k → k < to → BlankRow r s k)
 
 abbrev μ-loop : tie.MeasureT-loop
-μ-loop s r from to y₀ y = to - y
+μ-loop s r from to end₀ end = end
 
 loop-holds : tie.Need-loop-holds Inv-loop μ-loop
-loop-holds c = (omega arith, c .before .pre .0, λ k l u. absurd (omega arith))
+loop-holds c = (c .before .pre .0, omega arith, λ k l u. absurd (omega arith))
+
+sub-last : tie.Need-sub-last Inv-loop μ-loop
+sub-last c = search needs
 
 mul-at : tie.Need-mul-at Inv-loop μ-loop
 mul-at c =
     let s = c .before .before .before in
-    let h = row-in (c .before .loop .y) (s .args .to) (s .args .r) _ (c .loop-test .taken) (s .pre .1) in
+    let h = row-in (c .before .loop .end - 1) (s .args .to) (s .args .r) _ (omega arith) (s .pre .1) in
     search needs
 
 add-has-ink : tie.Need-add-has-ink Inv-loop μ-loop
 add-has-ink c =
     let s = c .before .before .before in
-    let h = row-in (c .before .loop .y) (s .args .to) (s .args .r) _ (c .loop-test .taken) (s .pre .1) in
+    let h = row-in (c .before .loop .end - 1) (s .args .to) (s .args .r) _ (omega arith) (s .pre .1) in
     search needs
 
 sub-has-ink : tie.Need-sub-has-ink Inv-loop μ-loop
@@ -40,7 +43,7 @@ part-has-ink-start c = search needs
 part-has-ink-end : tie.Need-part-has-ink-end Inv-loop μ-loop
 part-has-ink-end c =
     let s = c .before .before .before in
-    let h = row-in (c .before .loop .y) (s .args .to) (s .args .r) _ (c .loop-test .taken) (s .pre .1) in
+    let h = row-in (c .before .loop .end - 1) (s .args .to) (s .args .r) _ (omega arith) (s .pre .1) in
     search needs
 
 has-ink-requires : tie.Need-has-ink-requires Inv-loop μ-loop
@@ -51,16 +54,14 @@ returns c =
     let s = c .before .before .before .before .before .before in
     let a = s .args in
     let l = c .before .before .before .before .loop in
-    let h = row-in (l .y) (a .to) (a .r) _ (c .before .before .before .loop-test .taken) (s .pre .1) in
+    let y = l .end - 1 in
+    let h = row-in y (a .to) (a .r) _ (omega arith) (s .pre .1) in
     record {
       from = omega arith;
       to = omega (arith, s .pre .0);
       blank = l .inv .2;
-      ink = λ g. row-ink (a .r) (l .y) (l .y * a .r + a .r - l .y * a .r) (now (a .s)) (omega arith) h (sym (c .before .has-ink .ensures) ∙ c .if1 .taken);
+      ink = λ g. row-ink (a .r) y (y * a .r + a .r - y * a .r) (now (a .s)) (omega arith) h (sym (c .before .has-ink .ensures) ∙ c .if1 .taken);
     }
-
-add-y : tie.Need-add-y Inv-loop μ-loop
-add-y c = search needs
 
 loop-less : tie.Need-loop-less Inv-loop μ-loop
 loop-less c = search needs
@@ -70,25 +71,26 @@ loop-again c =
     let s = c .before .before .before .before .before .before in
     let a = s .args in
     let l = c .before .before .before .before .loop in
-    let h = row-in (l .y) (a .to) (a .r) _ (c .before .before .before .loop-test .taken) (s .pre .1) in (
+    let y = l .end - 1 in
+    let h = row-in y (a .to) (a .r) _ (omega arith) (s .pre .1) in (
       omega arith,
       omega arith,
-      blank-more (a .r) (a .from) (l .y) (now (a .s)) (l .inv .2) (row-blank (a .r) (l .y) (l .y * a .r + a .r - l .y * a .r) (now (a .s)) (omega arith) h (sym (c .before .has-ink .ensures) ∙ c .if1 .left)),
+      blank-less (a .r) (l .end) (a .to) (now (a .s)) (omega arith) (l .inv .2) (row-blank (a .r) y (y * a .r + a .r - y * a .r) (now (a .s)) (omega arith) h (sym (c .before .has-ink .ensures) ∙ c .if1 .left)),
     )
 
 returns-2 : tie.Need-returns-2 Inv-loop μ-loop
 returns-2 c =
-    let a = c .before .before .before .args in
     let l = c .before .loop in
-    record { from = c .before .before .before .pre .0; to = omega arith; blank = λ k i u. l .inv .2 k i (omega arith); ink = λ g. absurd (omega arith) }
+    record { from = omega arith; to = c .before .before .before .pre .0; blank = λ k i u. l .inv .2 k (omega arith) u; ink = λ g. absurd (omega arith) }
 
-pub first-row-spec : {M : Type 1} → statement M
-first-row-spec =
+pub end-row-spec : {M : Type 1} → statement M
+end-row-spec =
     tie.close
     (tie.spec
     Inv-loop
     μ-loop
     loop-holds
+    sub-last
     mul-at
     add-has-ink
     sub-has-ink
@@ -96,7 +98,6 @@ first-row-spec =
     part-has-ink-end
     has-ink-requires
     returns
-    add-y
     loop-less
     loop-again
     returns-2)

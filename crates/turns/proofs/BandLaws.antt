@@ -30,8 +30,8 @@ use Rattle.raster.specs.Rows.{overwrite}
 use Rattle.raster.proofs.PartLaws.{PartIs, part-back, part-overwrite}
 use Rattle.steps.proofs.StepLaws.{first-start, zeros-out}
 use Rattle.labels.specs.Labelled.{Labelled}
-use Rattle.skeleton.specs.Bands.{Banded, BlankRow, EndRow, FirstRow}
-use Rattle.skeleton.specs.Turns.{Stepped, Turned}
+use Rattle.turns.specs.Bands.{Banded, BlankRow, EndRow, FirstRow}
+use Rattle.turns.specs.Turns.{Stepped, Turned}
 
 -- ---- rows with and without ink
 

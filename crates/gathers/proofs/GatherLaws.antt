@@ -33,7 +33,7 @@ use Rattle.raster.specs.Rows.{overwrite}
 use Rattle.raster.proofs.PartLaws.{overwrite-all}
 use Rattle.steps.specs.Steps.{First, Sheet, dilated}
 use Rattle.steps.proofs.StepLaws.{dilated-is, first-as, first-clean, first-image, first-next}
-use Rattle.skeleton.specs.Gathered.{Kept, Tame, gathered, grown}
+use Rattle.gathers.specs.Gathered.{Kept, Tame, gathered, grown}
 
 -- the largest label bounds them all
 label-greatest : (W H : ℕ) (m : List ℕ) (p : Point) → labelAt W H m p ≤ greatest m

@@ -1,4 +1,4 @@
--- `skeleton::reconstruct_into` meets its contract.
+-- `gathers::reconstruct_into` meets its contract.
 use mathlib.Core.Path.{_∙_, sym}
 use Prim.Native.Nat.{_*_, _+_, _/_, ℕ}
 use native.Mathlib.Omega.{arith}
@@ -9,9 +9,9 @@ use lib.Seq.{length-take-le}
 use Rattle.morphology.specs.Element.{offsets}
 use Rattle.morphology.specs.Skeleton.{reconstruction}
 use Rattle.steps.proofs.StepLaws.{sheet-bytes, sheet-small, wrote}
-use Rattle.skeleton.proofs.GatherLaws.{emptied, gathered-cleans, gathered-dilated, kept-on, kept-sheet}
-use Rattle.skeleton.proofs.reconstruct_into.Statement.{statement}
-use Rattle.skeleton.proofs.reconstruct_into.Tie as tie
+use Rattle.gathers.proofs.GatherLaws.{emptied, gathered-cleans, gathered-dilated, kept-on, kept-sheet}
+use Rattle.gathers.proofs.reconstruct_into.Statement.{statement}
+use Rattle.gathers.proofs.reconstruct_into.Tie as tie
 
 add-r : tie.Need-add-r
 add-r c = search needs

@@ -38,9 +38,9 @@ use Rattle.raster.proofs.RowLaws.{row-in}
 use Rattle.raster.proofs.PartLaws.{PartIs, drop-overwrite, length-overwrite, part-overwrite}
 use Rattle.steps.specs.Steps.{First, Ready, Sheet}
 use Rattle.labels.specs.Labelled.{Labelled, lacking}
-use Rattle.skeleton.specs.Bands.{Banded, EndRow, FirstRow}
-use Rattle.skeleton.specs.Turns.{Finished, Stepped, Took, Turned, Turns}
-use Rattle.skeleton.proofs.BandLaws.{banded-next, banded-rows, eroded-sub}
+use Rattle.turns.specs.Bands.{Banded, EndRow, FirstRow}
+use Rattle.turns.specs.Turns.{Finished, Stepped, Took, Turned, Turns}
+use Rattle.turns.proofs.BandLaws.{banded-next, banded-rows, eroded-sub}
 use Rattle.steps.proofs.StepLaws.{first-clean, first-image, sheet-bytes}
 
 -- ---- one turn

@@ -1,5 +1,5 @@
--- `skeleton::gather` meets its contract.
-use Rattle.skeleton.proofs.gather.Statement.{statement}
+-- `gathers::gather` meets its contract.
+use Rattle.gathers.proofs.gather.Statement.{statement}
 use mathlib.Core.Path.{_∙_, _≡_, ap, refl, sym}
 use Prim.Native.Nat.{_*_, _+_, _≤_, max, ℕ}
 use borrow.Author.Needs.{needs}
@@ -10,9 +10,9 @@ use Rattle.morphology.specs.Element.{offsets}
 use Rattle.points.specs.Points.{Tops, greatestBelow}
 use Rattle.steps.specs.Steps.{First}
 use Rattle.steps.proofs.StepLaws.{sheet-bytes}
-use Rattle.skeleton.specs.Gathered.{gathered}
-use Rattle.skeleton.proofs.GatherLaws.{gathered-clean, gathered-last, gathered-more, gathered-start}
-use Rattle.skeleton.proofs.gather.Tie as tie
+use Rattle.gathers.specs.Gathered.{gathered}
+use Rattle.gathers.proofs.GatherLaws.{gathered-clean, gathered-last, gathered-more, gathered-start}
+use Rattle.gathers.proofs.gather.Tie as tie
 
 abbrev Inv-loop : tie.InvT-loop
 Inv-loop w h r p element cut labels work₀ n₀ tops₀ work n tops =

@@ -1,4 +1,4 @@
--- `skeleton::turn_band` meets its contract.
+-- `turns::turn_band` meets its contract.
 use Prim.Native.Nat.{_*_, _+_, _-_, _<_, ℕ}
 use mathlib.Core.Path.{refl}
 use native.Mathlib.Nat.{mul-comm}
@@ -6,9 +6,9 @@ use native.Mathlib.Omega.{arith}
 use borrow.Author.Needs.{needs}
 use denote.Ref.{now}
 use lib.ListN.{getD}
-use Rattle.skeleton.proofs.BandLaws.{band-clean, band-frame, band-long, band-span, band-stepped}
-use Rattle.skeleton.proofs.turn_band.Statement.{statement}
-use Rattle.skeleton.proofs.turn_band.Tie as tie
+use Rattle.turns.proofs.BandLaws.{band-clean, band-frame, band-long, band-span, band-stepped}
+use Rattle.turns.proofs.turn_band.Statement.{statement}
+use Rattle.turns.proofs.turn_band.Tie as tie
 
 sub-rows : tie.Need-sub-rows
 sub-rows c = search needs

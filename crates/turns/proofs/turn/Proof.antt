@@ -1,10 +1,10 @@
--- `skeleton::turn` meets its contract.
+-- `turns::turn` meets its contract.
 use borrow.Author.Needs.{needs}
 use denote.Ref.{now}
 use Rattle.morphology.proofs.ElementLaws.{element-bit}
-use Rattle.skeleton.proofs.TurnLaws.{turn-done}
-use Rattle.skeleton.proofs.turn.Statement.{statement}
-use Rattle.skeleton.proofs.turn.Tie as tie
+use Rattle.turns.proofs.TurnLaws.{turn-done}
+use Rattle.turns.proofs.turn.Statement.{statement}
+use Rattle.turns.proofs.turn.Tie as tie
 
 open-plane-requires : tie.Need-open-plane-requires
 open-plane-requires c κs = let s = c .before .before .before in (s .pre .0, s .pre .1, s .pre .2, element-bit (s .args .element) (s .pre .4), s .pre .5)

@@ -1,4 +1,4 @@
--- `skeleton::take_turns` meets its contract.
+-- `turns::take_turns` meets its contract.
 use mathlib.Core.Path.{_∙_, _≡_, refl, subst, sym}
 use Prim.Native.Nat.{_-_, max, ℕ}
 use native.Mathlib.Nat.{le-refl, mul-le-mul-right}
@@ -10,12 +10,12 @@ use Rattle.morphology.specs.Element.{offsets}
 use Rattle.morphology.specs.Image.{imageSet}
 use Rattle.morphology.proofs.ImageLaws.{image-on}
 use Rattle.steps.proofs.StepLaws.{first-start, sheet-bytes}
-use Rattle.skeleton.specs.Bands.{Banded}
-use Rattle.skeleton.specs.Turns.{Turns}
-use Rattle.skeleton.proofs.BandLaws.{banded-start}
-use Rattle.skeleton.proofs.TurnLaws.{sheet-rows, stepped-as, stepped-le, turns-band, turns-below, turns-clean, turns-found, turns-labels, turns-more, turns-over, turns-point, turns-start}
-use Rattle.skeleton.proofs.take_turns.Statement.{statement}
-use Rattle.skeleton.proofs.take_turns.Tie as tie
+use Rattle.turns.specs.Bands.{Banded}
+use Rattle.turns.specs.Turns.{Turns}
+use Rattle.turns.proofs.BandLaws.{banded-start}
+use Rattle.turns.proofs.TurnLaws.{sheet-rows, stepped-as, stepped-le, turns-band, turns-below, turns-clean, turns-found, turns-labels, turns-more, turns-over, turns-point, turns-start}
+use Rattle.turns.proofs.take_turns.Statement.{statement}
+use Rattle.turns.proofs.take_turns.Tie as tie
 
 abbrev Inv-loop : tie.InvT-loop
 Inv-loop w h r p element labels₀ work₀ points₀ n₀ from₀ to₀ labels work points n from to =
