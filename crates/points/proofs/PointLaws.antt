@@ -4,7 +4,7 @@ use mathlib.Core.List.{List, [], _++_, _∷_, map, map-append}
 use mathlib.Core.Path.{_∙_, _≡_, ap, ap₂, refl, subst, sym}
 use Prim.Native.Nat.{_%_, _*_, _+_, _-_, _/_, _<_, _^_, _≤_, max, suc, zero, zero-le, ℕ}
 use native.Mathlib.Decide.{decLt}
-use native.Mathlib.Nat.{add-suc, add-zero, mod-eq-of-lt, mul-assoc, suc-add, zero-add}
+use native.Mathlib.Nat.{add-suc, add-zero, mod-eq-of-lt, mul-assoc, pow-suc, suc-add, zero-add, zero-mul}
 use native.Mathlib.Numerals.{add-one}
 use native.Mathlib.Omega.{arith}
 use borrow.Author.Tests.{le-ltb, lt-ltb, ne-eqb}
@@ -12,7 +12,6 @@ use lib.Bits.{bitOr}
 use lib.Dec.{T, eqb, ltb}
 use lib.IntN.{pos}
 use lib.ListN.{drop, getD, length, length-drop, take}
-use native.Mathlib.Nat.{pow-suc}
 use lib.Seq.{getD-drop, getD-take, length-take-le, take-suc}
 use Rattle.morphology.specs.Image.{bitOf, fromBits, imageSet, isClean, stride}
 use Rattle.morphology.specs.Labels.{labelAt}
@@ -172,6 +171,34 @@ byte-whole row v x k b h q e =
     ∙ bits-same (isLabel (take k (drop x row)) v) (isLabel row v) 0 x 8
     (λ j l. ap (isLabel (take k (drop x row)) v) (let z : 0 + j ≡ j = omega arith in z) ∙ part-label row v x k j (omega arith) (omega arith))
 
+-- none of them
+label-none : (row : List ℕ) (v x : ℕ) → any (λ b. eqb b v) row ≡ false → isLabel row v x ≡ false
+label-none row v x e = by (decLt x (length row))
+  where
+    no-label : (l : List ℕ) (x : ℕ) → x < length l → any (λ b. eqb b v) l ≡ false → eqb (getD l x 0) v ≡ false
+    no-label [] x h q = absurd (omega arith)
+    no-label (b ∷ l) zero h q = left (eqb b v) (any (λ b. eqb b v) l) q
+      where
+        left : (c d : Bool) → (c || d) ≡ false → c ≡ false
+        left true d q = q
+        left false d q = refl
+    no-label (b ∷ l) (suc x) h q = no-label l x (omega arith) (right (eqb b v) (any (λ b. eqb b v) l) q)
+      where
+        right : (c d : Bool) → (c || d) ≡ false → d ≡ false
+        right true d q = absurd (subst T q tt)
+        right false d q = q
+
+    by : Dec (x < length row) → isLabel row v x ≡ false
+    by (yes l) = in-label row v x l ∙ no-label row x l e
+    by (no l) = past-label row v x (omega arith)
+
+pub byte-none : (row : List ℕ) (v x k : ℕ) → x + 8 ≤ length row → k ≡ 8 → any (λ b. eqb b v) (take k (drop x row)) ≡ false → 0 ≡ fromBits (isLabel row v) x 8
+unfolding fromBits
+byte-none row v x k h q e =
+    let n : ℕ = length (take k (drop x row)) in
+    byte-whole row v x k 0 h q
+    (sym (ap (fromBits (isLabel (take k (drop x row)) v) 0) (sym (zero-add n)) ∙ bits-pad (isLabel (take k (drop x row)) v) 0 0 n (λ j l. label-none (take k (drop x row)) v (0 + j) e) ∙ zero-mul (2 ^ n)))
+
 -- the last ones
 pub byte-rest : (row : List ℕ) (v x k s b : ℕ) → x + k ≡ length row → k + s ≡ 8 → b ≡ fromBits (isLabel (take k (drop x row)) v) 0 (length (take k (drop x row)))
     → (b * 2 ^ s) % 2 ^ 8 ≡ fromBits (isLabel row v) x 8
@@ -205,29 +232,12 @@ labels-joined row v old new n h m =
     (ap (λ (e : ℕ). eqb (fromBits (isLabel row v) (8 * i) 8 / 2 ^ e % 2) 1) w ∙ bit-fromBits (isLabel row v) (8 * i) 8 k hk))
 
 -- a row without such a label
-pub labels-none : (row : List ℕ) (v : ℕ) (old : List ℕ) → any (λ b. eqb b v) row ≡ false → Pixelwise old old (λ x b. b || isLabel row v x)
-labels-none row v old e = record { size = refl; pixels = λ x l. or-none (rowBit old x) (isLabel row v x) (none x (decLt x (length row))) }
+labels-none : (row : List ℕ) (v : ℕ) (old : List ℕ) → any (λ b. eqb b v) row ≡ false → Pixelwise old old (λ x b. b || isLabel row v x)
+labels-none row v old e = record { size = refl; pixels = λ x l. or-none (rowBit old x) (isLabel row v x) (label-none row v x e) }
   where
     or-none : (b c : Bool) → c ≡ false → b ≡ (b || c)
     or-none true c q = refl
     or-none false c q = sym q
-
-    no-label : (l : List ℕ) (x : ℕ) → x < length l → any (λ b. eqb b v) l ≡ false → eqb (getD l x 0) v ≡ false
-    no-label [] x h q = absurd (omega arith)
-    no-label (b ∷ l) zero h q = left (eqb b v) (any (λ b. eqb b v) l) q
-      where
-        left : (c d : Bool) → (c || d) ≡ false → c ≡ false
-        left true d q = q
-        left false d q = refl
-    no-label (b ∷ l) (suc x) h q = no-label l x (omega arith) (right (eqb b v) (any (λ b. eqb b v) l) q)
-      where
-        right : (c d : Bool) → (c || d) ≡ false → d ≡ false
-        right true d q = absurd (subst T q tt)
-        right false d q = q
-
-    none : (x : ℕ) → Dec (x < length row) → isLabel row v x ≡ false
-    none x (yes l) = in-label row v x l ∙ no-label row x l e
-    none x (no l) = past-label row v x (omega arith)
 
 -- a row whose largest label up to v is smaller
 pub labels-below : (row : List ℕ) (v : ℕ) (old : List ℕ) → greatestBelow (v + 1) row < v → Pixelwise old old (λ x b. b || isLabel row v x)

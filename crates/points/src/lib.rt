@@ -103,7 +103,7 @@ fn bits_of(part: &[u8], v: u8) -> u8
     b
 }
 
-// The eight labels from x on that are v, as a byte; none is past the row's end.
+// The eight labels from x on that are v, as a byte; none is past the row's end. Most eights have none.
 fn byte_of(row: &[u8], x: usize, v: u8) -> u8
     requires { ⌜ x < length (now row) ⌝ }
     ensures { λ r. ⌜ r ≡ fromBits (isLabel (now (row .entry)) v) x 8 ⌝ }
@@ -111,6 +111,9 @@ fn byte_of(row: &[u8], x: usize, v: u8) -> u8
     let m = row.len() - x;
     if m < 8 {
         return bits_of(&row[x..], v) << ((8 - m) as u32);
+    }
+    if !has_label(&row[x..x + 8], v) {
+        return 0;
     }
     bits_of(&row[x..x + 8], v)
 }
