@@ -17,7 +17,7 @@ use lib.Pow.{pow-pos}
 use lib.Seq.{getD-drop, getD-take, length-take-le}
 use Rattle.morphology.specs.Image.{bitOf, imageSet, pixel, stride}
 use Rattle.morphology.specs.Labels.{area, place}
-use Rattle.morphology.specs.Lists.{all, count, tabulate, upTo}
+use Rattle.morphology.specs.Lists.{countOf, everyOf, tabulate, upTo}
 use Rattle.morphology.specs.Point.{Point, at}
 use Rattle.morphology.proofs.CountLaws.{count-le, count-none, count-suc, digit}
 use Rattle.morphology.proofs.CoverLaws.{in-upTo, of-upTo}
@@ -55,12 +55,12 @@ bit-test b x h =
     by (suc (suc d)) p h l = absurd (omega arith)
 
 -- the ones among the first m pixels of a byte
-pub ones-first : (b m : ℕ) → b < 256 → m ≤ 8 → ones (b / 2 ^ (8 - m)) ≡ count (bitOf b) (upTo m)
-unfolding bitOf count ones tabulate
+pub ones-first : (b m : ℕ) → b < 256 → m ≤ 8 → ones (b / 2 ^ (8 - m)) ≡ countOf (bitOf b) (upTo m)
+unfolding bitOf countOf ones tabulate
 ones-first b m hb hm =
-    eqb→eq (ones (b / 2 ^ (8 - m))) (count (bitOf b) (upTo m))
-    (upto-out (λ m. eqb (ones (b / 2 ^ (8 - m))) (count (bitOf b) (upTo m))) 9 m (omega arith)
-    (upto-out (λ b. upto (λ m. eqb (ones (b / 2 ^ (8 - m))) (count (bitOf b) (upTo m))) 9) 256 b hb tt))
+    eqb→eq (ones (b / 2 ^ (8 - m))) (countOf (bitOf b) (upTo m))
+    (upto-out (λ m. eqb (ones (b / 2 ^ (8 - m))) (countOf (bitOf b) (upTo m))) 9 m (omega arith)
+    (upto-out (λ b. upto (λ m. eqb (ones (b / 2 ^ (8 - m))) (countOf (bitOf b) (upTo m))) 9) 256 b hb tt))
 
 -- what the code makes of the two bytes
 pub left-byte : (s : List ℕ) (a b x : ℕ) → x < 8 → bitOf (bitAnd (getD s a 0) (bitXor (getD s b 0) 255)) x ≡ leftAt s a b x
@@ -75,21 +75,21 @@ left-byte s a b x h = less-bit (getD s a 0) (getD s b 0) x h ∙ ap₂ (λ (c d 
 
 -- ---- one row
 
-pub count-more : (f : ℕ → Bool) (x : ℕ) → count f (upTo (x + 1)) ≡ count f (upTo x) + digit (f x)
-count-more f x = ap (λ (k : ℕ). count f (upTo k)) (add-one x) ∙ count-suc f (λ i. i) 0 x ∙ ap (λ (k : ℕ). count f (upTo x) + digit (f k)) (zero-add x)
+pub count-more : (f : ℕ → Bool) (x : ℕ) → countOf f (upTo (x + 1)) ≡ countOf f (upTo x) + digit (f x)
+count-more f x = ap (λ (k : ℕ). countOf f (upTo k)) (add-one x) ∙ count-suc f (λ i. i) 0 x ∙ ap (λ (k : ℕ). countOf f (upTo x) + digit (f k)) (zero-add x)
 
-pub count-upTo : (f : ℕ → Bool) (x : ℕ) → count f (upTo x) ≤ x
-count-upTo f x = subst (λ (n : ℕ). count f (upTo x) ≤ n) (length-row (λ i. i) 0 x) (count-le f (upTo x))
+pub count-upTo : (f : ℕ → Bool) (x : ℕ) → countOf f (upTo x) ≤ x
+count-upTo f x = subst (λ (n : ℕ). countOf f (upTo x) ≤ n) (length-row (λ i. i) 0 x) (count-le f (upTo x))
 
 -- the loop's end
-pub row-labelled : (f : ℕ → Bool) (v : ℕ) (old new : List ℕ) (x n : ℕ) → x ≡ length old → Mapped (λ j. cond (f j) v (getD old j 0)) old new x → n ≡ count f (upTo x)
+pub row-labelled : (f : ℕ → Bool) (v : ℕ) (old new : List ℕ) (x n : ℕ) → x ≡ length old → Mapped (λ j. cond (f j) v (getD old j 0)) old new x → n ≡ countOf f (upTo x)
     → RowLabelled 0 (length old) f v old new n
 row-labelled f v old new x n e m q = record {
   size = m .size;
   before = λ j l. absurd (not-suc-le-zero l);
   after = λ j l. m .rest j (omega arith);
   places = λ j l. ap (λ (i : ℕ). getD new i 0) (zero-add j) ∙ m .done j (omega arith) ∙ ap (λ (i : ℕ). cond (f j) v (getD old i 0)) (sym (zero-add j));
-  points = q ∙ ap (λ (k : ℕ). count f (upTo k)) e;
+  points = q ∙ ap (λ (k : ℕ). countOf f (upTo k)) e;
 }
 
 -- a row of k = w labels lent and back
@@ -105,7 +105,7 @@ row-back at w k f v old ys n e h m =
       places = λ x l.
           p .within x (omega arith) ∙ ap (λ (i : ℕ). getD ys i 0) (sym (zero-add x)) ∙ m .places x (omega arith)
           ∙ ap (λ (i : ℕ). cond (f x) v i) (ap (λ (i : ℕ). getD (take k (drop at old)) i 0) (zero-add x) ∙ getD-take k (drop at old) x 0 (omega arith) ∙ getD-drop at old x 0);
-      points = m .points ∙ ap (λ (i : ℕ). count f (upTo i)) (cut ∙ e);
+      points = m .points ∙ ap (λ (i : ℕ). countOf f (upTo i)) (cut ∙ e);
     }
 
 -- nothing to label
@@ -119,7 +119,7 @@ row-blank at w f v old none = record {
 }
 
 -- what the test of two rows says
-pub same-bytes : (s : List ℕ) (a b r : ℕ) → all (λ i. eqb (getD s (a + i) 0) (getD s (b + i) 0)) (upTo r) ≡ true → (i : ℕ) → i < r → getD s (a + i) 0 ≡ getD s (b + i) 0
+pub same-bytes : (s : List ℕ) (a b r : ℕ) → everyOf (λ i. eqb (getD s (a + i) 0) (getD s (b + i) 0)) (upTo r) ≡ true → (i : ℕ) → i < r → getD s (a + i) 0 ≡ getD s (b + i) 0
 same-bytes s a b r e i l =
     eqb→eq (getD s (a + i) 0) (getD s (b + i) 0) (all-out (λ j. eqb (getD s (a + j) 0) (getD s (b + j) 0)) (subst T (sym e) tt) (in-upTo r i l))
 
@@ -143,30 +143,30 @@ row-same s a b r at w v old h f = row-blank at w (leftAt s a b) v old none
         ap (λ (c : Bool). c && not (rowBit s (8 * b + x))) z ∙ both (rowBit s (8 * b + x))
 
 -- counted up to x, and from there
-count-on : (f g : ℕ → Bool) (x m : ℕ) → ((j : ℕ) → j < m → g j ≡ f (x + j)) → count f (upTo (x + m)) ≡ count f (upTo x) + count g (upTo m)
-unfolding count tabulate
-count-on f g x zero e = ap (λ (k : ℕ). count f (upTo k)) (add-zero x) ∙ sym (add-zero (count f (upTo x)))
+count-on : (f g : ℕ → Bool) (x m : ℕ) → ((j : ℕ) → j < m → g j ≡ f (x + j)) → countOf f (upTo (x + m)) ≡ countOf f (upTo x) + countOf g (upTo m)
+unfolding countOf tabulate
+count-on f g x zero e = ap (λ (k : ℕ). countOf f (upTo k)) (add-zero x) ∙ sym (add-zero (countOf f (upTo x)))
 count-on f g x (suc m) e =
     let q : x + suc m ≡ (x + m) + 1 = omega arith in
-    ap (λ (k : ℕ). count f (upTo k)) q ∙ count-more f (x + m)
+    ap (λ (k : ℕ). countOf f (upTo k)) q ∙ count-more f (x + m)
     ∙ ap₂ (λ (k l : ℕ). k + l) (count-on f g x m (λ j l. e j (omega arith))) (ap digit (sym (e m (omega arith))))
-    ∙ add-assoc (count f (upTo x)) (count g (upTo m)) (digit (g m))
-    ∙ ap (λ (k : ℕ). count f (upTo x) + k) (sym (ap (λ (k : ℕ). count g (upTo k)) (sym (add-one m)) ∙ count-more g m))
+    ∙ add-assoc (countOf f (upTo x)) (countOf g (upTo m)) (digit (g m))
+    ∙ ap (λ (k : ℕ). countOf f (upTo x) + k) (sym (ap (λ (k : ℕ). countOf g (upTo k)) (sym (add-one m)) ∙ count-more g m))
 
 -- the same by another name
 pub row-as : (at w : ℕ) (f g : ℕ → Bool) (v : ℕ) (old new : List ℕ) (n : ℕ) → ((x : ℕ) → x < w → f x ≡ g x) → RowLabelled at w f v old new n → RowLabelled at w g v old new n
-unfolding count tabulate
+unfolding countOf tabulate
 row-as at w f g v old new n e m = record {
   size = m .size;
   before = m .before;
   after = m .after;
   places = λ x l. m .places x l ∙ ap (λ (c : Bool). cond c v (getD old (at + x) 0)) (e x l);
   points = m .points ∙
-      ap (λ (k : ℕ). count f (upTo k)) (sym (zero-add w)) ∙ count-on f g 0 w (λ j l. sym (e j l) ∙ ap f (sym (zero-add j))) ∙ zero-add (count g (upTo w));
+      ap (λ (k : ℕ). countOf f (upTo k)) (sym (zero-add w)) ∙ count-on f g 0 w (λ j l. sym (e j l) ∙ ap f (sym (zero-add j))) ∙ zero-add (countOf g (upTo w));
 }
 
 pub row-none : (at : ℕ) (f : ℕ → Bool) (v : ℕ) (old : List ℕ) → RowLabelled at 0 f v old old 0
-unfolding count tabulate
+unfolding countOf tabulate
 row-none at f v old = record { size = refl; before = λ j l. refl; after = λ j l. refl; places = λ x l. absurd (not-suc-le-zero l); points = refl }
 
 -- m labels more
@@ -233,15 +233,15 @@ rows-join W S v y k e old u u′ n m hy he a b =
 
 -- the points of a row
 area-row : (W : ℕ) (S : Point → Bool) (f : ℕ → Bool) (y : ℕ) → ((x : ℕ) → x < W → f x ≡ S (at (pos x) (pos y))) → (x : ℕ) → x ≤ W
-    → areaBelow W S (y * W + x) ≡ areaBelow W S (y * W) + count f (upTo x)
-unfolding count tabulate
+    → areaBelow W S (y * W + x) ≡ areaBelow W S (y * W) + countOf f (upTo x)
+unfolding countOf tabulate
 area-row W S f y e zero h = ap (areaBelow W S) (add-zero (y * W)) ∙ sym (add-zero (areaBelow W S (y * W)))
 area-row W S f y e (suc x) h =
     let q : y * W + suc x ≡ (y * W + x) + 1 = omega arith in
     ap (areaBelow W S) q ∙ area-turn W S (y * W + x)
     ∙ ap₂ (λ (a b : ℕ). a + b) (area-row W S f y e x (omega arith)) (ap digit (ap S (place-at W x y h) ∙ sym (e x h)))
-    ∙ add-assoc (areaBelow W S (y * W)) (count f (upTo x)) (digit (f x))
-    ∙ ap (λ (k : ℕ). areaBelow W S (y * W) + k) (sym (ap (λ (k : ℕ). count f (upTo k)) (sym (add-one x)) ∙ count-more f x))
+    ∙ add-assoc (areaBelow W S (y * W)) (countOf f (upTo x)) (digit (f x))
+    ∙ ap (λ (k : ℕ). areaBelow W S (y * W) + k) (sym (ap (λ (k : ℕ). countOf f (upTo k)) (sym (add-one x)) ∙ count-more f x))
 
 -- one row
 pub rows-one : (W : ℕ) (S : Point → Bool) (v y : ℕ) (f : ℕ → Bool) (old new : List ℕ) (n : ℕ) → ((x : ℕ) → x < W → f x ≡ S (at (pos x) (pos y)))

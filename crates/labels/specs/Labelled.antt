@@ -6,7 +6,7 @@ use Prim.Native.Nat.{_*_, _+_, _<_, _≤_, ℕ}
 use lib.ListN.{drop, getD, length}
 use Rattle.morphology.specs.Image.{imageSet}
 use Rattle.morphology.specs.Labels.{area, place}
-use Rattle.morphology.specs.Lists.{count, upTo}
+use Rattle.morphology.specs.Lists.{countOf, upTo}
 use Rattle.morphology.specs.Point.{Point}
 use Rattle.raster.specs.Rows.{rowBit}
 
@@ -20,7 +20,7 @@ pub record RowLabelled (at w : ℕ) (f : ℕ → Bool) (v : ℕ) (old new : List
   pub before : (j : ℕ) → j < at → getD new j 0 ≡ getD old j 0
   pub after : (j : ℕ) → at + w ≤ j → getD new j 0 ≡ getD old j 0
   pub places : (x : ℕ) → x < w → getD new (at + x) 0 ≡ cond (f x) v (getD old (at + x) 0)
-  pub points : found ≡ count f (upTo w)
+  pub points : found ≡ countOf f (upTo w)
 
 -- the points of the first plane that the plane at q lacks
 abbrev pub lacking : ℕ → ℕ → ℕ → List ℕ → (Point → Bool)

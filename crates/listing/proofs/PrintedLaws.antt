@@ -14,7 +14,7 @@ use Rattle.morphology.specs.Answers.{Answer, Outcome, outcome}
 use Rattle.morphology.specs.Element.{offsets}
 use Rattle.morphology.specs.Image.{imageSet, planeBytes, stride}
 use Rattle.morphology.specs.Labels.{pointsOf}
-use Rattle.morphology.specs.Lists.{all, greatest}
+use Rattle.morphology.specs.Lists.{everyOf, greatest}
 use Rattle.morphology.specs.Operations.{decomposeRows, decomposed, labelled, skeletonAnswer}
 use Rattle.morphology.specs.Refusals.{Row, firstRefusal, notPlane, notPlaces, row1, row2, row3, row4, shortWork, unless}
 use Rattle.morphology.specs.Skeleton.{skeletonFunction, skeletonLabels}
@@ -52,10 +52,10 @@ plane-is W H = refl
 -- ---- refusals
 
 -- the first refusal is one of the table's numbers
-first-le : (N : ℕ) (rows : List Row) → T (all (λ r. leb (r .0) N) rows) → firstRefusal rows ≤ N
+first-le : (N : ℕ) (rows : List Row) → T (everyOf (λ r. leb (r .0) N) rows) → firstRefusal rows ≤ N
 unfolding firstRefusal
 first-le N [] t = zero-le
-first-le N ((n, b) ∷ rows) t = by b (leb→le n N (and-l (leb n N) (all (λ r. leb (r .0) N) rows) t)) (first-le N rows (and-r (leb n N) (all (λ r. leb (r .0) N) rows) t))
+first-le N ((n, b) ∷ rows) t = by b (leb→le n N (and-l (leb n N) (everyOf (λ r. leb (r .0) N) rows) t)) (first-le N rows (and-r (leb n N) (everyOf (λ r. leb (r .0) N) rows) t))
   where
     by : (b : Bool) → n ≤ N → firstRefusal rows ≤ N → cond b n (firstRefusal rows) ≤ N
     by true l m = l

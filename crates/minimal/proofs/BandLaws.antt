@@ -11,7 +11,7 @@ use lib.Dec.{eqb}
 use lib.ListN.{drop, getD, getD-replicate, length, length-drop, take}
 use lib.Seq.{getD-drop, getD-take, length-take-le}
 use Rattle.morphology.specs.Image.{stride}
-use Rattle.morphology.specs.Lists.{any}
+use Rattle.morphology.specs.Lists.{someOf}
 use Rattle.raster.specs.Rows.{rowBit}
 use Rattle.raster.proofs.RowLaws.{row-in}
 use Rattle.steps.proofs.StepLaws.{zeros-out}
@@ -24,7 +24,7 @@ use Rattle.minimal.proofs.PixelLaws.{ink-above, ink-band, row-ink, row-
 -- ---- blank rows
 
 -- a row of k = r bytes without a 1
-pub blank-row : (s : List ℕ) (d r k : ℕ) → k ≡ r → d + r ≤ length s → any (λ b. not (eqb b 0)) (take k (drop d s)) ≡ false → Blank d (d + r) s
+pub blank-row : (s : List ℕ) (d r k : ℕ) → k ≡ r → d + r ≤ length s → someOf (λ b. not (eqb b 0)) (take k (drop d s)) ≡ false → Blank d (d + r) s
 blank-row s d r k e h z j lo hi =
     let l : d + (j - d) ≡ j = omega arith in
     let t : j - d < k = omega arith in

@@ -13,7 +13,7 @@ use lib.Dec.{T, eqb, eqb→eq, leb, leb→le, le→leb, ltb, ltb→lt}
 use lib.ListN.{getD, length, replicate, take}
 use lib.Seq.{ext-getD}
 use Rattle.morphology.specs.Labels.{place, raster}
-use Rattle.morphology.specs.Lists.{any, count, greatest, tabulate, upTo}
+use Rattle.morphology.specs.Lists.{countOf, greatest, someOf, tabulate, upTo}
 use Rattle.morphology.specs.Minimal.{covers}
 use Rattle.morphology.specs.Point.{Point}
 use Rattle.morphology.proofs.CountLaws.{count-le, count-none, digit, getD-greatest}
@@ -31,8 +31,8 @@ use Rattle.minimal.proofs.SizeLaws.{shape-hits, shape-within}
 
 -- ---- counts of the same
 
-count-same : (p q : ℕ → Bool) (s n : ℕ) → ((j : ℕ) → j < s + n → p j ≡ q j) → count p (tabulate (λ j. j) s n) ≡ count q (tabulate (λ j. j) s n)
-unfolding count tabulate
+count-same : (p q : ℕ → Bool) (s n : ℕ) → ((j : ℕ) → j < s + n → p j ≡ q j) → countOf p (tabulate (λ j. j) s n) ≡ countOf q (tabulate (λ j. j) s n)
+unfolding countOf tabulate
 count-same p q s zero f = refl
 count-same p q s (suc n) f =
     ap₂ (λ (a b : ℕ). a + b) (ap digit (f s (omega arith))) (count-same p q (suc s) n (λ j h. f j (omega arith)))
@@ -112,15 +112,15 @@ module _ (W H : ℕ) (B : List Point) (m : List ℕ) where
 
   cover-skip : (n i : ℕ) → (getD m i 0 ≡ n + 1 → ⊥) → (z : Point) → coverTo W H B m n (i + 1) z ≡ coverTo W H B m n i z
   unfolding coverTo
-  cover-skip n i f z = ap (λ (p : ℕ → Bool). count p (upTo (W * H))) (fun-ext (λ j. ap (λ (b : Bool). b && covers W B m z j) (before-skip m n i f j)))
+  cover-skip n i f z = ap (λ (p : ℕ → Bool). countOf p (upTo (W * H))) (fun-ext (λ j. ap (λ (b : Bool). b && covers W B m z j) (before-skip m n i f j)))
 
   cover-next : (n i : ℕ) → i < W * H → getD m i 0 ≡ n + 1 → (z : Point) → coverTo W H B m n (i + 1) z ≡ coverTo W H B m n i z + digit (covers W B m z i)
   unfolding coverTo
   cover-next n i h q z =
       let a = count-split p′ i 0 (W * H) zero-le (omega arith) in
       let b = count-split p i 0 (W * H) zero-le (omega arith) in
-      let c : count (λ j. not (eqb j i) && p′ j) (upTo (W * H)) ≡ count (λ j. not (eqb j i) && p j) (upTo (W * H)) =
-      ap (λ (f : ℕ → Bool). count f (upTo (W * H))) (fun-ext others) in
+      let c : countOf (λ j. not (eqb j i) && p′ j) (upTo (W * H)) ≡ countOf (λ j. not (eqb j i) && p j) (upTo (W * H)) =
+      ap (λ (f : ℕ → Bool). countOf f (upTo (W * H))) (fun-ext others) in
       let d : digit (p′ i) ≡ digit (covers W B m z i) = ap (λ (b : Bool). digit (b && covers W B m z i)) (before-next m n i q) in
       let e : digit (p i) ≡ 0 = ap (λ (b : Bool). digit (b && covers W B m z i)) (before-now m n i q) in
       omega arith
@@ -154,14 +154,14 @@ module _ (W H : ℕ) (B : List Point) (m : List ℕ) where
   cover-all : (n : ℕ) → greatest m ≤ n → (z : Point) → coverTo W H B m n 0 z ≡ cover W H B m z
   unfolding coverTo cover
   cover-all n h z =
-      ap (λ (p : ℕ → Bool). count p (upTo (W * H)))
+      ap (λ (p : ℕ → Bool). countOf p (upTo (W * H)))
       (fun-ext (λ j. ap (λ (b : Bool). (b || (eqb (getD m j 0) (n + 1) && ltb j 0)) && covers W B m z j) (le-leb (getD m j 0) n (omega (arith, getD-greatest m j)))))
 
   cover-few : (n i : ℕ) (z : Point) → coverTo W H B m n i z ≤ W * H
   unfolding coverTo
   cover-few n i z =
       let f : ℕ → Bool = λ j. before m n i j && covers W B m z j in
-      subst (λ (k : ℕ). count f (upTo (W * H)) ≤ k) (length-row (λ j. j) 0 (W * H)) (count-le f (upTo (W * H)))
+      subst (λ (k : ℕ). countOf f (upTo (W * H)) ≤ k) (length-row (λ j. j) 0 (W * H)) (count-le f (upTo (W * H)))
 
   -- ---- the counters
 

@@ -13,7 +13,7 @@ use lib.ListN.{getD, length, set}
 use lib.Seq.{getD-set-other}
 use Rattle.morphology.specs.Image.{inside, onFrame}
 use Rattle.morphology.specs.Labels.{place, places, pointsOf, raster}
-use Rattle.morphology.specs.Lists.{all, any, count, tabulate, upTo}
+use Rattle.morphology.specs.Lists.{countOf, everyOf, someOf, tabulate, upTo}
 use Rattle.morphology.specs.Minimal.{covers, dropAt, dropSize, dropSizes, isRedundant, minimalBelow}
 use Rattle.morphology.specs.Morphology.{dilate, times}
 use Rattle.morphology.specs.Point.{Point, _⊞_, origin, samePoint}
@@ -32,14 +32,14 @@ use Rattle.morphology.proofs.TestLaws.{T-ext, all-in, all-out, and-in, and-l, a
 
 -- ---- counts of others
 
-pub any-count : {A : Type 0} (p : A → Bool) (l : List A) → any p l ≡ leb 1 (count p l)
+pub any-count : {A : Type 0} (p : A → Bool) (l : List A) → someOf p l ≡ leb 1 (countOf p l)
 any-count p l = T-ext
-    (λ t. let r = any-out p l t in le→leb 1 (count p l) (count-some p (r .1) (r .2)))
-    (λ t. go (leb→le 1 (count p l) t) (decide (any p l)))
+    (λ t. let r = any-out p l t in le→leb 1 (countOf p l) (count-some p (r .1) (r .2)))
+    (λ t. go (leb→le 1 (countOf p l) t) (decide (someOf p l)))
   where
-    go : 1 ≤ count p l → T (any p l) ⊎ T (not (any p l)) → T (any p l)
+    go : 1 ≤ countOf p l → T (someOf p l) ⊎ T (not (someOf p l)) → T (someOf p l)
     go h (inl t) = t
-    go h (inr t) = absurd (omega (arith, count-none p l (λ a m u. T-not (any p l) t (any-in p m u))))
+    go h (inr t) = absurd (omega (arith, count-none p l (λ a m u. T-not (someOf p l) t (any-in p m u))))
 
 digit-other : (p : ℕ → Bool) (i j : ℕ) → j ≢ i → digit (not (eqb j i) && p j) ≡ digit (p j)
 digit-other p i j h = ap (λ (b : Bool). digit (not b && p j)) (ne-eqb j i h)
@@ -47,8 +47,8 @@ digit-other p i j h = ap (λ (b : Bool). digit (not b && p j)) (ne-eqb j i h)
 digit-self : (p : ℕ → Bool) (i j : ℕ) → j ≡ i → digit (not (eqb j i) && p j) ≡ 0
 digit-self p i j h = ap (λ (b : Bool). digit (not b && p j)) (eq-eqb j i h)
 
-count-beyond : (p : ℕ → Bool) (i s n : ℕ) → i < s → count (λ j. not (eqb j i) && p j) (tabulate (λ j. j) s n) ≡ count p (tabulate (λ j. j) s n)
-unfolding count tabulate
+count-beyond : (p : ℕ → Bool) (i s n : ℕ) → i < s → countOf (λ j. not (eqb j i) && p j) (tabulate (λ j. j) s n) ≡ countOf p (tabulate (λ j. j) s n)
+unfolding countOf tabulate
 count-beyond p i s zero h = refl
 count-beyond p i s (suc n) h =
     let ne : s ≢ i = λ q. omega arith in
@@ -56,16 +56,16 @@ count-beyond p i s (suc n) h =
 
 -- the count is i's own and the others'
 pub count-split : (p : ℕ → Bool) (i s n : ℕ) → s ≤ i → i < s + n
-    → count p (tabulate (λ j. j) s n) ≡ digit (p i) + count (λ j. not (eqb j i) && p j) (tabulate (λ j. j) s n)
-unfolding count tabulate
+    → countOf p (tabulate (λ j. j) s n) ≡ digit (p i) + countOf (λ j. not (eqb j i) && p j) (tabulate (λ j. j) s n)
+unfolding countOf tabulate
 count-split p i s zero h l = absurd (omega arith)
 count-split p i s (suc n) h l = go (count-split p i (suc s) n) (ℕ-discrete s i)
   where
     rest : ℕ
-    rest = count (λ j. not (eqb j i) && p j) (tabulate (λ j. j) (suc s) n)
+    rest = countOf (λ j. not (eqb j i) && p j) (tabulate (λ j. j) (suc s) n)
 
-    go : (suc s ≤ i → i < suc s + n → count p (tabulate (λ j. j) (suc s) n) ≡ digit (p i) + rest) → Dec (s ≡ i)
-        → digit (p s) + count p (tabulate (λ j. j) (suc s) n) ≡ digit (p i) + (digit (not (eqb s i) && p s) + rest)
+    go : (suc s ≤ i → i < suc s + n → countOf p (tabulate (λ j. j) (suc s) n) ≡ digit (p i) + rest) → Dec (s ≡ i)
+        → digit (p s) + countOf p (tabulate (λ j. j) (suc s) n) ≡ digit (p i) + (digit (not (eqb s i) && p s) + rest)
     go up (yes q) =
         let a = digit-self p i s q in
         let b = count-beyond p i (suc s) n (omega arith) in
@@ -81,7 +81,7 @@ count-split p i s (suc n) h l = go (count-split p i (suc s) n) (ℕ-discrete s i
 module _ (W H : ℕ) (B : List Point) where
   pub cover-le : (m : List ℕ) (z : Point) → cover W H B m z ≤ W * H
   unfolding cover
-  cover-le m z = subst (λ (n : ℕ). count (covers W B m z) (upTo (W * H)) ≤ n) (length-row (λ j. j) 0 (W * H)) (count-le (covers W B m z) (upTo (W * H)))
+  cover-le m z = subst (λ (n : ℕ). countOf (covers W B m z) (upTo (W * H)) ≤ n) (length-row (λ j. j) 0 (W * H)) (count-le (covers W B m z) (upTo (W * H)))
 
   pub counts-length : (m : List ℕ) → length (counts W H B m) ≡ W * H
   counts-length m = length-raster W H (cover W H B m)
@@ -106,14 +106,14 @@ module _ (W H : ℕ) (B : List Point) where
 
       to : T (stamp B 0 p (suc n) z) → T (D z)
       to t =
-          let r = any-out (λ c. samePoint z (p ⊞ c)) (times B n) (and-r (leb 0 n) (any (λ c. samePoint z (p ⊞ c)) (times B n)) t) in
+          let r = any-out (λ c. samePoint z (p ⊞ c)) (times B n) (and-r (leb 0 n) (someOf (λ c. samePoint z (p ⊞ c)) (times B n)) t) in
           subst (λ (y : Point). T (D y)) (sym (same-eq z (p ⊞ r .0) (r .2))) (dilate-in (times B n) (λ y. samePoint y p) p (r .0) (same-refl p) (r .1))
 
       fro : T (D z) → T (stamp B 0 p (suc n) z)
       fro t =
           let r = dilate-out (times B n) (λ y. samePoint y p) z t in
           let w : z ≡ p ⊞ r .1 = r .4 ∙ ap (λ (y : Point). y ⊞ r .1) (same-eq (r .0) p (r .2)) in
-          and-in (leb 0 n) (any (λ c. samePoint z (p ⊞ c)) (times B n)) (le→leb 0 n zero-le)
+          and-in (leb 0 n) (someOf (λ c. samePoint z (p ⊞ c)) (times B n)) (le→leb 0 n zero-le)
           (any-in (λ c. samePoint z (p ⊞ c)) (r .3) (subst (λ (y : Point). T (samePoint z y)) w (same-refl z)))
 
   pub covers-own : (m : List ℕ) (i n : ℕ) {b : Point} → getD m i 0 ≡ suc n → List·Memᴰ b (times B n) → T (covers W B m (place W i ⊞ b) i)
@@ -133,7 +133,7 @@ module _ (W H : ℕ) (B : List Point) where
           ap (λ (v : ℕ). stamp B 0 (place W j) v z) (getD-set-other m i j 0 0 q)
           ∙ sym (ap (λ (b : Bool). not b && covers W B m z j) (ne-eqb j i q))
 
-  others : (m : List ℕ) (i : ℕ) (z : Point) → i < W * H → cover W H B m z ≡ digit (covers W B m z i) + count (other W B m i z) (upTo (W * H))
+  others : (m : List ℕ) (i : ℕ) (z : Point) → i < W * H → cover W H B m z ≡ digit (covers W B m z i) + countOf (other W B m i z) (upTo (W * H))
   unfolding cover
   others m i z h = count-split (covers W B m z) i 0 (W * H) zero-le (omega arith)
 
@@ -141,7 +141,7 @@ module _ (W H : ℕ) (B : List Point) where
   pub cover-drop : (m : List ℕ) (i : ℕ) (z : Point) → i < W * H → cover W H B m z ≡ digit (covers W B m z i) + cover W H B (set m i 0) z
   unfolding cover
   cover-drop m i z h =
-      others m i z h ∙ ap (λ (p : ℕ → Bool). digit (covers W B m z i) + count p (upTo (W * H))) (sym (fun-ext (λ j. covers-dropped m i z j)))
+      others m i z h ∙ ap (λ (p : ℕ → Bool). digit (covers W B m z i) + countOf p (upTo (W * H))) (sym (fun-ext (λ j. covers-dropped m i z j)))
 
   pub counts-drop : (m : List ℕ) (i x : ℕ) → i < W * H → x < W * H
       → getD (counts W H B (set m i 0)) x 0 ≡ getD (counts W H B m) x 0 - digit (covers W B m (place W x) i)
@@ -154,21 +154,21 @@ module _ (W H : ℕ) (B : List Point) where
   -- ---- the test by counts
 
   -- another point covers z, exactly when the count is two or more
-  pub other-count : (m : List ℕ) (i : ℕ) (z : Point) → i < W * H → T (covers W B m z i) → any (other W B m i z) (upTo (W * H)) ≡ leb 2 (cover W H B m z)
+  pub other-count : (m : List ℕ) (i : ℕ) (z : Point) → i < W * H → T (covers W B m z i) → someOf (other W B m i z) (upTo (W * H)) ≡ leb 2 (cover W H B m z)
   other-count m i z h t =
-      let c = count (other W B m i z) (upTo (W * H)) in
+      let c = countOf (other W B m i z) (upTo (W * H)) in
       let q : cover W H B m z ≡ 1 + c = others m i z h ∙ ap (λ (k : ℕ). k + c) (digit-some (covers W B m z i) t) in
       any-count (other W B m i z) (upTo (W * H))
       ∙ T-ext (λ u. let l = leb→le 1 c u in le→leb 2 (cover W H B m z) (omega arith)) (λ u. let l = leb→le 2 (cover W H B m z) u in le→leb 1 c (omega arith))
 
   pub redundant-count : (m : List ℕ) (i n : ℕ) → i < W * H → getD m i 0 ≡ suc n
-      → isRedundant W H B n m i ≡ all (λ b. leb 2 (cover W H B m (place W i ⊞ b))) (times B n)
+      → isRedundant W H B n m i ≡ everyOf (λ b. leb 2 (cover W H B m (place W i ⊞ b))) (times B n)
   unfolding isRedundant
   redundant-count m i n h q = T-ext
-      (λ t. all-in (λ b. leb 2 (cover W H B m (place W i ⊞ b))) (times B n) (λ b k. subst T (same b k) (all-out (λ b. any (other W B m i (place W i ⊞ b)) (upTo (W * H))) t k)))
-      (λ t. all-in (λ b. any (other W B m i (place W i ⊞ b)) (upTo (W * H))) (times B n) (λ b k. subst T (sym (same b k)) (all-out (λ b. leb 2 (cover W H B m (place W i ⊞ b))) t k)))
+      (λ t. all-in (λ b. leb 2 (cover W H B m (place W i ⊞ b))) (times B n) (λ b k. subst T (same b k) (all-out (λ b. someOf (other W B m i (place W i ⊞ b)) (upTo (W * H))) t k)))
+      (λ t. all-in (λ b. someOf (other W B m i (place W i ⊞ b)) (upTo (W * H))) (times B n) (λ b k. subst T (sym (same b k)) (all-out (λ b. leb 2 (cover W H B m (place W i ⊞ b))) t k)))
     where
-      same : (b : Point) → List·Memᴰ b (times B n) → any (other W B m i (place W i ⊞ b)) (upTo (W * H)) ≡ leb 2 (cover W H B m (place W i ⊞ b))
+      same : (b : Point) → List·Memᴰ b (times B n) → someOf (other W B m i (place W i ⊞ b)) (upTo (W * H)) ≡ leb 2 (cover W H B m (place W i ⊞ b))
       same b k = other-count m i (place W i ⊞ b) h (covers-own m i n q k)
 
   -- ---- the test by counters
@@ -195,7 +195,7 @@ module _ (W H : ℕ) (B : List Point) where
 
   -- each place that the point covers counts two or more
   abbrev pub allTwice : ℕ → ℕ → List ℕ → Bool
-  allTwice n i c = all (λ x. not (spread W B n i (place W x)) || leb 2 (getD c x 0)) (upTo (W * H))
+  allTwice n i c = everyOf (λ x. not (spread W B n i (place W x)) || leb 2 (getD c x 0)) (upTo (W * H))
 
   pub redundant-counters : (m : List ℕ) (i n : ℕ) → i < W * H → getD m i 0 ≡ suc n → Stays W H B n i → isRedundant W H B n m i ≡ allTwice n i (counts W H B m)
   redundant-counters m i n h q stay = redundant-count m i n h q ∙ T-ext
@@ -211,7 +211,7 @@ module _ (W H : ℕ) (B : List Point) where
       two-is : (x : ℕ) → x < W * H → two x ≡ leb 2 (cover W H B m (place W x))
       two-is x l = ap (leb 2) (getD-place W H (cover W H B m) x l)
 
-      to : T (all (λ b. leb 2 (cover W H B m (place W i ⊞ b))) (times B n)) → (x : ℕ) → x < W * H → T (D x) ⊎ T (not (D x)) → T (not (D x) || two x)
+      to : T (everyOf (λ b. leb 2 (cover W H B m (place W i ⊞ b))) (times B n)) → (x : ℕ) → x < W * H → T (D x) ⊎ T (not (D x)) → T (not (D x) || two x)
       to t x l (inr u) = or-l (not (D x)) (two x) u
       to t x l (inl u) =
           let r = dilate-out (times B n) (λ y. samePoint y (place W i)) (place W x) u in
@@ -219,7 +219,7 @@ module _ (W H : ℕ) (B : List Point) where
           or-r (not (D x)) (two x)
           (subst T (sym (two-is x l)) (subst (λ (y : Point). T (leb 2 (cover W H B m y))) w (all-out (λ b. leb 2 (cover W H B m (place W i ⊞ b))) t (r .3))))
 
-      fro : T (all (λ x. not (D x) || two x) (upTo (W * H))) → (b : Point) → List·Memᴰ b (times B n) → T (leb 2 (cover W H B m (place W i ⊞ b)))
+      fro : T (everyOf (λ x. not (D x) || two x) (upTo (W * H))) → (b : Point) → List·Memᴰ b (times B n) → T (leb 2 (cover W H B m (place W i ⊞ b)))
       fro t b k =
           let f = frame-place (place W i ⊞ b) (stay b k) in
           let x = f .0 in
@@ -311,7 +311,7 @@ module _ (W H : ℕ) (B : List Point) where
 -- ---- the points left
 
 pub points-drop : (m : List ℕ) (i n : ℕ) → getD m i 0 ≡ suc n → pointsOf m ≡ suc (pointsOf (set m i 0))
-unfolding count
+unfolding countOf
 points-drop [] i n q = absurd (suc-ne-zero n (sym q))
 points-drop (v ∷ m) zero n q = let e = ap (λ (k : ℕ). digit (not (eqb k 0))) q ∙ ap (λ (b : Bool). digit (not b)) (eqb·suc-zero n) in omega arith
 points-drop (v ∷ m) (suc i) n q = let r = points-drop m i n q in omega arith

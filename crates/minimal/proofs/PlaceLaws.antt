@@ -9,7 +9,7 @@ use borrow.Author.Tests.{eq-eqb}
 use lib.Dec.{T, eqb}
 use lib.ListN.{drop, getD, length, length-drop, take}
 use lib.Seq.{getD-drop, getD-take, length-take-le}
-use Rattle.morphology.specs.Lists.{any, greatest}
+use Rattle.morphology.specs.Lists.{greatest, someOf}
 use Rattle.morphology.proofs.RefusalLaws.{or-out-false}
 use Rattle.minimal.specs.Sizes.{Without}
 
@@ -26,13 +26,13 @@ without-both v i e k m p q j lo hi = by (decLt j e)
 pub without-one : (v i : ℕ) (m : List ℕ) → (getD m i 0 ≡ v → ⊥) → Without v i (i + 1) m
 without-one v i m f j lo hi q = let e : j ≡ i = omega arith in f (ap (λ (k : ℕ). getD m k 0) (sym e) ∙ q)
 
-unseen : (v : ℕ) (l : List ℕ) (j : ℕ) → any (λ b. eqb b v) l ≡ false → j < length l → getD l j 0 ≡ v → ⊥
+unseen : (v : ℕ) (l : List ℕ) (j : ℕ) → someOf (λ b. eqb b v) l ≡ false → j < length l → getD l j 0 ≡ v → ⊥
 unseen v [] j e h q = omega arith
-unseen v (b ∷ l) zero e h q = subst T (or-out-false (eqb b v) (any (λ b. eqb b v) l) e .0) (subst T (sym (eq-eqb b v q)) tt)
-unseen v (b ∷ l) (suc j) e h q = unseen v l j (or-out-false (eqb b v) (any (λ b. eqb b v) l) e .1) (omega arith) q
+unseen v (b ∷ l) zero e h q = subst T (or-out-false (eqb b v) (someOf (λ b. eqb b v) l) e .0) (subst T (sym (eq-eqb b v q)) tt)
+unseen v (b ∷ l) (suc j) e h q = unseen v l j (or-out-false (eqb b v) (someOf (λ b. eqb b v) l) e .1) (omega arith) q
 
 -- a block of k = n places
-pub without-block : (v i n k : ℕ) (m : List ℕ) → k ≡ n → i + n ≤ length m → any (λ b. eqb b v) (take k (drop i m)) ≡ false → Without v i (i + n) m
+pub without-block : (v i n k : ℕ) (m : List ℕ) → k ≡ n → i + n ≤ length m → someOf (λ b. eqb b v) (take k (drop i m)) ≡ false → Without v i (i + n) m
 without-block v i n k m e h z j lo hi q =
     let l : i + (j - i) ≡ j = omega arith in
     let t : j - i < k = omega arith in

@@ -7,7 +7,7 @@ use lib.Dec.{T}
 use lib.ListN.{getD}
 use Rattle.morphology.specs.Image.{onFrame}
 use Rattle.morphology.specs.Labels.{place, raster}
-use Rattle.morphology.specs.Lists.{count, upTo}
+use Rattle.morphology.specs.Lists.{countOf, upTo}
 use Rattle.morphology.specs.Minimal.{covers}
 use Rattle.morphology.specs.Morphology.{dilate, times}
 use Rattle.morphology.specs.Point.{Point, _⊞_, samePoint}
@@ -30,7 +30,7 @@ AllStay W H B m = (i n : ℕ) → i < W * H → getD m i 0 ≡ suc n → Stays W
 
 -- how many of the map's points cover z
 unfoldable pub cover : ℕ → ℕ → List Point → List ℕ → Point → ℕ
-cover W H B m z = count (covers W B m z) (upTo (W * H))
+cover W H B m z = countOf (covers W B m z) (upTo (W * H))
 
 -- the counters
 abbrev pub counts : ℕ → ℕ → List Point → List ℕ → List ℕ

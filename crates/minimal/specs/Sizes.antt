@@ -8,7 +8,7 @@ use lib.ListN.{drop, getD, length}
 use Rattle.morphology.specs.Element.{isElement, offsets}
 use Rattle.morphology.specs.Image.{imageSet, isClean}
 use Rattle.morphology.specs.Labels.{raster}
-use Rattle.morphology.specs.Lists.{count, greatest, upTo}
+use Rattle.morphology.specs.Lists.{countOf, greatest, upTo}
 use Rattle.morphology.specs.Minimal.{covers}
 use Rattle.morphology.specs.Point.{Point}
 use Rattle.steps.specs.Steps.{Sheet}
@@ -54,7 +54,7 @@ before m n i j = leb (getD m j 0) n || (eqb (getD m j 0) (n + 1) && ltb j i)
 
 -- how many of those cover z
 unfoldable pub coverTo : ℕ → ℕ → List Point → List ℕ → ℕ → ℕ → Point → ℕ
-coverTo W H B m n i z = count (λ j. before m n i j && covers W B m z j) (upTo (W * H))
+coverTo W H B m n i z = countOf (λ j. before m n i j && covers W B m z j) (upTo (W * H))
 
 -- the counters then
 abbrev pub Counting : ℕ → ℕ → List Point → List ℕ → ℕ → ℕ → List ℕ → Type 0

@@ -12,7 +12,7 @@ use lib.Dec.{T, eqb, eqb→eq}
 use lib.ListN.{getD, length}
 use Rattle.morphology.specs.Image.{bitOf, imageSet, isClean, onesOf, pixel, planeBytes, stride}
 use Rattle.morphology.specs.Labels.{area, place, places}
-use Rattle.morphology.specs.Lists.{all, count, tabulate, upTo}
+use Rattle.morphology.specs.Lists.{countOf, everyOf, tabulate, upTo}
 use Rattle.morphology.specs.Point.{Point}
 use Rattle.morphology.proofs.ImageLaws.{mem-row}
 use Rattle.morphology.proofs.LabelLaws.{place-at}
@@ -68,8 +68,8 @@ total-zero f i (suc n) h =
 abbrev digit : Bool → ℕ
 digit b = cond b 1 0
 
-count-row : {A : Type 0} (p : A → Bool) (g : ℕ → A) (i n : ℕ) → count p (tabulate g i n) ≡ total (λ j. digit (p (g j))) i n
-unfolding count tabulate total
+count-row : {A : Type 0} (p : A → Bool) (g : ℕ → A) (i n : ℕ) → countOf p (tabulate g i n) ≡ total (λ j. digit (p (g j))) i n
+unfolding countOf tabulate total
 count-row p g i zero = refl
 count-row p g i (suc n) = ap (λ (k : ℕ). digit (p (g i)) + k) (count-row p g (suc i) n)
 
@@ -109,7 +109,7 @@ module _ (W H : ℕ) (s : List ℕ) (size : length s ≡ planeBytes W H) (bytes 
       total-zero (px y) (0 + W) n (λ k l.
       ap (px y) (ap (λ (a : ℕ). a + k) (zero-add W))
       ∙ pad (pixel W s (W + k) y)
-      (all-out (λ x. not (pixel W s x y)) (all-out (λ y. all (λ x. not (pixel W s x y)) (tabulate (λ x. x) W (stride W * 8 - W))) clean my) (mem-row (λ k. k) W n k l))) in
+      (all-out (λ x. not (pixel W s x y)) (all-out (λ y. everyOf (λ x. not (pixel W s x y)) (tabulate (λ x. x) W (stride W * 8 - W))) clean my) (mem-row (λ k. k) W n k l))) in
       let t = total-add (px y) 0 W n in
       sym (ap (total (px y) 0) (sym q) ∙ t ∙ ap (λ (k : ℕ). total (px y) 0 W + k) z ∙ add-zero (total (px y) 0 W))
     where

@@ -12,7 +12,7 @@ use lib.IntN.{+ℤ-idr, +ℤ-negℤ-cancel, _+ℤ_, _-ℤ_, negsuc, pos, ℤ}
 use lib.ListN.{getD}
 use Rattle.morphology.specs.Image.{bitOf, fromBits, inside, pack, pixel, planeBytes, stride}
 use Rattle.morphology.specs.Labels.{area, place}
-use Rattle.morphology.specs.Lists.{all, any}
+use Rattle.morphology.specs.Lists.{everyOf, someOf}
 use Rattle.morphology.specs.Morphology.{dilate, erode, opening}
 use Rattle.morphology.specs.Point.{Point, _⊞_, at, minus}
 use Rattle.morphology.proofs.CountLaws.{digit}
@@ -37,11 +37,11 @@ swap z b t = assoc z b t ∙ ap (λ (k : Point). z ⊞ k) (comm b t) ∙ sym (as
 
 pub erode-moved : (B : List Point) (a : ℕ) (X : Point → Bool) → erode B (moved a X) ≡ moved a (erode B X)
 unfolding moved erode
-erode-moved B a X = fun-ext (λ z. ap (λ (f : Point → Bool). all f B) (fun-ext (λ b. ap X (swap z b (at (pos 0) (pos a))))))
+erode-moved B a X = fun-ext (λ z. ap (λ (f : Point → Bool). everyOf f B) (fun-ext (λ b. ap X (swap z b (at (pos 0) (pos a))))))
 
 pub dilate-moved : (B : List Point) (a : ℕ) (X : Point → Bool) → dilate B (moved a X) ≡ moved a (dilate B X)
 unfolding moved dilate
-dilate-moved B a X = fun-ext (λ z. ap (λ (f : Point → Bool). any f B) (fun-ext (λ b. ap X (swap z (minus b) (at (pos 0) (pos a))))))
+dilate-moved B a X = fun-ext (λ z. ap (λ (f : Point → Bool). someOf f B) (fun-ext (λ b. ap X (swap z (minus b) (at (pos 0) (pos a))))))
 
 pub open-moved : (B : List Point) (a : ℕ) (X : Point → Bool) → opening B (moved a X) ≡ moved a (opening B X)
 unfolding opening

@@ -8,7 +8,7 @@ use native.Mathlib.Numerals.{add-one}
 use native.Mathlib.Omega.{arith}
 use lib.Dec.{T}
 use lib.ListN.{getD, length, take}
-use Rattle.morphology.specs.Lists.{all, any, count, greatest, tabulate}
+use Rattle.morphology.specs.Lists.{countOf, everyOf, greatest, someOf, tabulate}
 
 -- a test as a number
 abbrev pub digit : Bool → ℕ
@@ -28,31 +28,31 @@ digit-some false t = absurd t
 
 -- ---- counts
 
-pub count-none : {A : Type 0} (p : A → Bool) (l : List A) → ((a : A) → List·Memᴰ a l → T (p a) → ⊥) → count p l ≡ 0
-unfolding count
+pub count-none : {A : Type 0} (p : A → Bool) (l : List A) → ((a : A) → List·Memᴰ a l → T (p a) → ⊥) → countOf p l ≡ 0
+unfolding countOf
 count-none p [] f = refl
 count-none p (a ∷ l) f = ap₂ (λ (m n : ℕ). m + n) (digit-none (p a) (f a (List·Memᴰ·head refl))) (count-none p l (λ b m. f b (List·Memᴰ·tail m)))
 
-pub count-some : {A : Type 0} (p : A → Bool) {a : A} {l : List A} → List·Memᴰ a l → T (p a) → 0 < count p l
-unfolding count
+pub count-some : {A : Type 0} (p : A → Bool) {a : A} {l : List A} → List·Memᴰ a l → T (p a) → 0 < countOf p l
+unfolding countOf
 count-some p {a} (List·Memᴰ·head {x} {xs} e) t = omega (arith, digit-some (p x) (subst (λ (b : _). T (p b)) e t))
 count-some p (List·Memᴰ·tail {x} {xs} m) t = omega (arith, count-some p m t)
 
-pub count-le : {A : Type 0} (p : A → Bool) (l : List A) → count p l ≤ length l
-unfolding count
+pub count-le : {A : Type 0} (p : A → Bool) (l : List A) → countOf p l ≤ length l
+unfolding countOf
 count-le p [] = zero-le
 count-le p (a ∷ l) = omega (arith, digit-le (p a), count-le p l)
 
 -- two counts that add up at every index
 pub count-sum : {A B C : Type 0} (p : A → Bool) (q : B → Bool) (r : C → Bool) (f : ℕ → A) (g : ℕ → B) (h : ℕ → C) (i n : ℕ)
-    → ((k : ℕ) → digit (p (f k)) ≡ digit (q (g k)) + digit (r (h k))) → count p (tabulate f i n) ≡ count q (tabulate g i n) + count r (tabulate h i n)
-unfolding count tabulate
+    → ((k : ℕ) → digit (p (f k)) ≡ digit (q (g k)) + digit (r (h k))) → countOf p (tabulate f i n) ≡ countOf q (tabulate g i n) + countOf r (tabulate h i n)
+unfolding countOf tabulate
 count-sum p q r f g h i zero e = refl
 count-sum p q r f g h i (suc n) e = omega (arith, e i, count-sum p q r f g h (suc i) n e)
 
 -- one more index
-pub count-suc : {A : Type 0} (p : A → Bool) (f : ℕ → A) (i n : ℕ) → count p (tabulate f i (suc n)) ≡ count p (tabulate f i n) + digit (p (f (i + n)))
-unfolding count tabulate
+pub count-suc : {A : Type 0} (p : A → Bool) (f : ℕ → A) (i n : ℕ) → countOf p (tabulate f i (suc n)) ≡ countOf p (tabulate f i n) + digit (p (f (i + n)))
+unfolding countOf tabulate
 count-suc p f i zero = ap (λ (k : ℕ). digit (p (f k)) + 0) (sym (add-zero i)) ∙ omega arith
 count-suc p f i (suc n) =
     let q = count-suc p f (suc i) n in
@@ -79,14 +79,14 @@ getD-greatest (k ∷ l) (suc i) = omega (arith, getD-greatest l i)
 
 -- ---- buffers, entry by entry
 
-take-count : (p : ℕ → Bool) (l : List ℕ) (i : ℕ) → i < length l → count p (take (suc i) l) ≡ count p (take i l) + digit (p (getD l i 0))
-unfolding count
+take-count : (p : ℕ → Bool) (l : List ℕ) (i : ℕ) → i < length l → countOf p (take (suc i) l) ≡ countOf p (take i l) + digit (p (getD l i 0))
+unfolding countOf
 take-count p [] i h = absurd (not-suc-le-zero h)
 take-count p (v ∷ l) zero h = omega arith
 take-count p (v ∷ l) (suc i) h = omega (arith, take-count p l i (le-of-suc-le-suc h))
 
-pub count-take : (p : ℕ → Bool) (l : List ℕ) (i : ℕ) → i < length l → count p (take (i + 1) l) ≡ count p (take i l) + digit (p (getD l i 0))
-count-take p l i h = ap (λ (k : ℕ). count p (take k l)) (add-one i) ∙ take-count p l i h
+pub count-take : (p : ℕ → Bool) (l : List ℕ) (i : ℕ) → i < length l → countOf p (take (i + 1) l) ≡ countOf p (take i l) + digit (p (getD l i 0))
+count-take p l i h = ap (λ (k : ℕ). countOf p (take k l)) (add-one i) ∙ take-count p l i h
 
 take-greatest : (l : List ℕ) (i : ℕ) → i < length l → greatest (take (suc i) l) ≡ max (greatest (take i l)) (getD l i 0)
 unfolding greatest
@@ -99,7 +99,7 @@ greatest-take l i h = ap (λ (k : ℕ). greatest (take k l)) (add-one i) ∙ tak
 
 -- ---- tests, index by index
 
-pub any-suc : {A : Type 0} (p : A → Bool) (f : ℕ → A) (i n : ℕ) → any p (tabulate f i (suc n)) ≡ (any p (tabulate f i n) || p (f (i + n)))
+pub any-suc : {A : Type 0} (p : A → Bool) (f : ℕ → A) (i n : ℕ) → someOf p (tabulate f i (suc n)) ≡ (someOf p (tabulate f i n) || p (f (i + n)))
 unfolding tabulate
 any-suc p f i zero = or-false (p (f i)) ∙ ap (λ (k : ℕ). p (f k)) (sym (add-zero i))
   where
@@ -107,14 +107,14 @@ any-suc p f i zero = or-false (p (f i)) ∙ ap (λ (k : ℕ). p (f k)) (sym (add
     or-false true = refl
     or-false false = refl
 any-suc p f i (suc n) =
-    ap (λ (b : Bool). p (f i) || b) (any-suc p f (suc i) n ∙ ap (λ (k : ℕ). any p (tabulate f (suc i) n) || p (f k)) (suc-add i n ∙ sym (add-suc i n)))
-    ∙ or-assoc (p (f i)) (any p (tabulate f (suc i) n)) (p (f (i + suc n)))
+    ap (λ (b : Bool). p (f i) || b) (any-suc p f (suc i) n ∙ ap (λ (k : ℕ). someOf p (tabulate f (suc i) n) || p (f k)) (suc-add i n ∙ sym (add-suc i n)))
+    ∙ or-assoc (p (f i)) (someOf p (tabulate f (suc i) n)) (p (f (i + suc n)))
   where
     or-assoc : (a b c : Bool) → (a || (b || c)) ≡ ((a || b) || c)
     or-assoc true b c = refl
     or-assoc false b c = refl
 
-pub all-suc : {A : Type 0} (p : A → Bool) (f : ℕ → A) (i n : ℕ) → all p (tabulate f i (suc n)) ≡ (all p (tabulate f i n) && p (f (i + n)))
+pub all-suc : {A : Type 0} (p : A → Bool) (f : ℕ → A) (i n : ℕ) → everyOf p (tabulate f i (suc n)) ≡ (everyOf p (tabulate f i n) && p (f (i + n)))
 unfolding tabulate
 all-suc p f i zero = and-true (p (f i)) ∙ ap (λ (k : ℕ). p (f k)) (sym (add-zero i))
   where
@@ -122,8 +122,8 @@ all-suc p f i zero = and-true (p (f i)) ∙ ap (λ (k : ℕ). p (f k)) (sym (add
     and-true true = refl
     and-true false = refl
 all-suc p f i (suc n) =
-    ap (λ (b : Bool). p (f i) && b) (all-suc p f (suc i) n ∙ ap (λ (k : ℕ). all p (tabulate f (suc i) n) && p (f k)) (suc-add i n ∙ sym (add-suc i n)))
-    ∙ and-assoc (p (f i)) (all p (tabulate f (suc i) n)) (p (f (i + suc n)))
+    ap (λ (b : Bool). p (f i) && b) (all-suc p f (suc i) n ∙ ap (λ (k : ℕ). everyOf p (tabulate f (suc i) n) && p (f k)) (suc-add i n ∙ sym (add-suc i n)))
+    ∙ and-assoc (p (f i)) (everyOf p (tabulate f (suc i) n)) (p (f (i + suc n)))
   where
     and-assoc : (a b c : Bool) → (a && (b && c)) ≡ ((a && b) && c)
     and-assoc true b c = refl

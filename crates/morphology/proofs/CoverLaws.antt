@@ -11,7 +11,7 @@ use lib.IntN.{negsuc, pos, ℤ}
 use lib.ListN.{getD}
 use Rattle.morphology.specs.Image.{inside, onFrame}
 use Rattle.morphology.specs.Labels.{labelAt, place, places, raster}
-use Rattle.morphology.specs.Lists.{all, any, greatest, tabulate, upTo}
+use Rattle.morphology.specs.Lists.{everyOf, greatest, someOf, tabulate, upTo}
 use Rattle.morphology.specs.Minimal.{covers, isRedundant, minimalLabels}
 use Rattle.morphology.specs.Morphology.{erode, opening, times}
 use Rattle.morphology.specs.Point.{Point, _⊞_, origin}
@@ -34,7 +34,7 @@ in-upTo n i h = subst (λ (j : ℕ). List·Memᴰ j (upTo n)) (zero-add i) (mem-
 pub of-upTo : (n : ℕ) {i : ℕ} → List·Memᴰ i (upTo n) → i < n
 of-upTo n m = let r = row-mem (λ j. j) 0 n m in subst (λ (j : ℕ). j < n) (sym (r .2 ∙ zero-add (r .0))) (r .1)
 
-pub any-row : (p : Point → Bool) (f : ℕ → Point) (i n : ℕ) → any p (tabulate f i n) ≡ any (λ j. p (f j)) (tabulate (λ j. j) i n)
+pub any-row : (p : Point → Bool) (f : ℕ → Point) (i n : ℕ) → someOf p (tabulate f i n) ≡ someOf (λ j. p (f j)) (tabulate (λ j. j) i n)
 unfolding tabulate
 any-row p f i zero = refl
 any-row p f i (suc n) = ap (λ (b : Bool). p (f i) || b) (any-row p f (suc i) n)
@@ -70,13 +70,13 @@ module _ (W H : ℕ) (B : List Point) (el : Element B) where
     down = λ p t. and-r (inside W (p .x)) (inside H (p .y)) (frame p t);
   }
     where
-      grown : (j n : ℕ) → j < W * H → getD m j 0 ≡ suc n → (leb 0 n && not (all (λ b. onFrame W H (place W j ⊞ b)) (times B n))) ≡ true → ⊥
+      grown : (j n : ℕ) → j < W * H → getD m j 0 ≡ suc n → (leb 0 n && not (everyOf (λ b. onFrame W H (place W j ⊞ b)) (times B n))) ≡ true → ⊥
       grown j n h q t =
           subst T tame
           (any-in (λ p. leaves W H B 0 p (labelAt W H m p)) (subst (λ (i : ℕ). List·Memᴰ (place W i) (places W H)) (zero-add j) (mem-row (place W) 0 (W * H) j h))
           (subst (λ (v : ℕ). T (leaves W H B 0 (place W j) v)) (sym (labelAt-place W H m j h ∙ q)) (subst T (sym t) tt)))
 
-      inside-all : (j n : ℕ) → j < W * H → getD m j 0 ≡ suc n → (b : Bool) → all (λ b. onFrame W H (place W j ⊞ b)) (times B n) ≡ b → T b
+      inside-all : (j n : ℕ) → j < W * H → getD m j 0 ≡ suc n → (b : Bool) → everyOf (λ b. onFrame W H (place W j ⊞ b)) (times B n) ≡ b → T b
       inside-all j n h q true p = tt
       inside-all j n h q false p =
           grown j n h q (ap₂ (λ (x y : Bool). x && not y) (T-true (leb 0 n) (le→leb 0 n zero-le)) p)
@@ -89,7 +89,7 @@ module _ (W H : ℕ) (B : List Point) (el : Element B) where
       frame p t =
           let r = any-out (covers W B m p) (upTo (W * H)) (to-covered m p t) in
           let o = covers-out W H B m p (r .0) (r .2) in
-          let a = inside-all (r .0) (o .0) (of-upTo (W * H) (r .1)) (o .2) (all (λ b. onFrame W H (place W (r .0) ⊞ b)) (times B (o .0))) refl in
+          let a = inside-all (r .0) (o .0) (of-upTo (W * H) (r .1)) (o .2) (everyOf (λ b. onFrame W H (place W (r .0) ⊞ b)) (times B (o .0))) refl in
           subst (λ (z : Point). T (onFrame W H z)) (sym (o .4)) (all-out (λ b. onFrame W H (place W (r .0) ⊞ b)) a (o .3))
 
   -- ---- points of size 0 of an image's labels
@@ -143,7 +143,7 @@ module _ (W H : ℕ) (B : List Point) (el : Element B) where
 
       own : (n : ℕ) → getD s i 0 ≡ suc n → T (isRedundant W H B n s i) → ⊥
       own zero p t =
-          let a = all-out (λ b. any (other W B s i (place W i ⊞ b)) (upTo (W * H))) t (origin-times B (el .centred) 0) in
+          let a = all-out (λ b. someOf (other W B s i (place W i ⊞ b)) (upTo (W * H))) t (origin-times B (el .centred) 0) in
           let z = place W i ⊞ origin in
           let r = any-out (other W B s i z) (upTo (W * H)) a in
           let j = r .0 in

@@ -14,7 +14,7 @@ use lib.Dec.{T, T-not, eqb, eqb→eq, leb, leb→le, lit<, ltb}
 use lib.ListN.{length}
 use lib.Pow.{mod-pow-add, pow-pos}
 use Rattle.morphology.specs.Element.{bit, isElement, offset, offsets, offsetsBelow}
-use Rattle.morphology.specs.Lists.{any, upTo}
+use Rattle.morphology.specs.Lists.{someOf, upTo}
 use Rattle.morphology.specs.Point.{Point, origin, sameInteger, samePoint}
 use Rattle.morphology.proofs.ImageLaws.{mem-row, row-mem}
 use Rattle.morphology.proofs.PointLaws.{same-refl}
@@ -139,7 +139,7 @@ apart i h = upto-out (λ i. eqb i 12 || not (samePoint (offset 2 i) origin)) 25 
 
 element-other : (e : ℕ) → T (isElement e) → (b : Point) × List·Memᴰ b (offsets e) × (b ≢ origin)
 unfolding isElement offsets
-element-other e t = go (decide (any other (upTo 25)))
+element-other e t = go (decide (someOf other (upTo 25)))
   where
     other : ℕ → Bool
     other i = bit e i && not (eqb i 12)
@@ -154,16 +154,16 @@ element-other e t = go (decide (any other (upTo 25)))
         by (inl s) = T-not (eqb i 12) n s
         by (inr s) = T-not (samePoint (offset 2 i) origin) s (subst (λ (p : Point). T (samePoint (offset 2 i) p)) q (same-refl (offset 2 i)))
 
-    one : T (not (any other (upTo 25))) → (i : ℕ) → i < 25 → T (bit e i) → i ≡ 12
+    one : T (not (someOf other (upTo 25))) → (i : ℕ) → i < 25 → T (bit e i) → i ≡ 12
     one n i h b = by (decide (eqb i 12))
       where
         by : T (eqb i 12) ⊎ T (not (eqb i 12)) → i ≡ 12
         by (inl s) = eqb→eq i 12 s
         by (inr s) =
-            absurd (T-not (any other (upTo 25)) n
+            absurd (T-not (someOf other (upTo 25)) n
             (any-in other (subst (λ (k : ℕ). List·Memᴰ k (upTo 25)) (zero-add i) (mem-row (λ k. k) 0 25 i h)) (and-in (bit e i) (not (eqb i 12)) b s)))
 
-    go : T (any other (upTo 25)) ⊎ T (not (any other (upTo 25))) → (b : Point) × List·Memᴰ b (offsetsBelow 2 e 25) × (b ≢ origin)
+    go : T (someOf other (upTo 25)) ⊎ T (not (someOf other (upTo 25))) → (b : Point) × List·Memᴰ b (offsetsBelow 2 e 25) × (b ≢ origin)
     go (inl s) =
         let r = any-out other (upTo 25) s in
         let m = row-mem (λ k. k) 0 25 (r .1) in

@@ -12,7 +12,7 @@ use lib.Dec.{T, leb, leb→le, le→leb, ltb, ltb→lt, lt→ltb}
 use lib.IntN.{+ℤ-idr, _*ℤ_, _+ℤ_, negsuc, pos, subℕ, ℤ}
 use Rattle.morphology.specs.Extent.{above, below, boxed, extent, fits}
 use Rattle.morphology.specs.Image.{inside, onFrame}
-use Rattle.morphology.specs.Lists.{all, greatest}
+use Rattle.morphology.specs.Lists.{everyOf, greatest}
 use Rattle.morphology.specs.Morphology.{times}
 use Rattle.morphology.specs.Point.{Point, _⊞_, origin}
 use Rattle.morphology.proofs.FrameLaws.{minus-far, scaled, scaled-in}
@@ -142,7 +142,7 @@ module _ (co : Point → ℤ) (co-origin : co origin ≡ pos 0) (co-add : (a b :
 
 -- ---- the box
 
-pub box-exact : (W H : ℕ) (B : List Point) → List·Memᴰ origin B → (n : ℕ) (p : Point) → all (λ b. onFrame W H (p ⊞ b)) (times B n) ≡ boxed W H B n p
+pub box-exact : (W H : ℕ) (B : List Point) → List·Memᴰ origin B → (n : ℕ) (p : Point) → everyOf (λ b. onFrame W H (p ⊞ b)) (times B n) ≡ boxed W H B n p
 unfolding boxed _⊞_ origin scaled lo hi
 box-exact W H B ob n p =
     let fx = fits W (n * extent (λ b. below (b .x)) B) (n * extent (λ b. above (b .x)) B) (p .x) in

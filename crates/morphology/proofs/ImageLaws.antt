@@ -14,7 +14,7 @@ use lib.ListN.{drop, getD, length, length-append, length-drop, length-replicate,
 use lib.Pow.{areBytes, field, high, pow-add, pow-pos, shr-lt, split}
 use lib.Seq.{ext-getD}
 use Rattle.morphology.specs.Image.{bitOf, clip, fromBits, imageSet, inside, isClean, pack, pixel, planeBytes, stride}
-use Rattle.morphology.specs.Lists.{all, tabulate, upTo}
+use Rattle.morphology.specs.Lists.{everyOf, tabulate, upTo}
 use Rattle.morphology.specs.Operations.{cleared}
 use Rattle.morphology.specs.Point.{Point, at}
 use Rattle.morphology.proofs.FrameLaws.{OnFrame, far}
@@ -203,7 +203,7 @@ bit-image W H s clean i j R q hR h hj = go (decLt (i % R * 8 + j) W)
         let e : W + k ≡ x = omega arith in
         let my = subst (λ (y : ℕ). List·Memᴰ y (upTo H)) (zero-add (i / R)) (mem-row (λ y. y) 0 H (i / R) hy) in
         let mx = subst (λ (c : ℕ). List·Memᴰ c (tabulate (λ c. c) W (stride W * 8 - W))) e (mem-row (λ c. c) W (stride W * 8 - W) k hk) in
-        let t = all-out (λ c. not (pixel W s c (i / R))) (all-out (λ y. all (λ c. not (pixel W s c y)) (tabulate (λ c. c) W (stride W * 8 - W))) clean my) mx in
+        let t = all-out (λ c. not (pixel W s c (i / R))) (all-out (λ y. everyOf (λ c. not (pixel W s c y)) (tabulate (λ c. c) W (stride W * 8 - W))) clean my) mx in
         ap (λ (a : Bool). a && (ltb (i / R) H && pixel W s x (i / R))) (le-ltb x W w) ∙ not-false (pixel W s x (i / R)) t ∙ px
 
 -- the bytes that were read: a clean image of the right length
@@ -237,7 +237,7 @@ bytes-pack W H X =
 pub clean-pack : (W H : ℕ) (X : Point → Bool) → OnFrame W H X → T (isClean W H (pack W H X))
 unfolding isClean
 clean-pack W H X on =
-    all-in (λ y. all (λ x. not (pixel W s x y)) (tabulate (λ x. x) W (stride W * 8 - W))) (upTo H) (λ y my.
+    all-in (λ y. everyOf (λ x. not (pixel W s x y)) (tabulate (λ x. x) W (stride W * 8 - W))) (upTo H) (λ y my.
     all-in (λ x. not (pixel W s x y)) (tabulate (λ x. x) W (stride W * 8 - W)) (λ x mx.
     let ry = row-mem (λ y. y) 0 H my in
     let rx = row-mem (λ x. x) W (stride W * 8 - W) mx in
@@ -287,14 +287,14 @@ image-agree W H a b f = fun-ext (λ p. T-ext (image-to W H a b f (p .x) (p .y)) 
 pub clean-agree : (W H : ℕ) (a b : List ℕ) → Agree W H a b → T (isClean W H a) → T (isClean W H b)
 unfolding isClean
 clean-agree W H a b f t =
-    all-in (λ y. all (λ x. not (pixel W b x y)) (tabulate (λ x. x) W (stride W * 8 - W))) (upTo H) (λ y my.
+    all-in (λ y. everyOf (λ x. not (pixel W b x y)) (tabulate (λ x. x) W (stride W * 8 - W))) (upTo H) (λ y my.
     all-in (λ x. not (pixel W b x y)) (tabulate (λ x. x) W (stride W * 8 - W)) (λ x mx.
     let ry = row-mem (λ y. y) 0 H my in
     let rx = row-mem (λ x. x) W (stride W * 8 - W) mx in
     let hy : y < H = subst (λ (k : ℕ). k < H) (sym (ry .2 ∙ zero-add (ry .0))) (ry .1) in
     let hx : x / 8 < stride W = omega (arith, rx .1, rx .2) in
     subst (λ (c : Bool). T (not c)) (pixel-agree W H a b f x y hx hy)
-    (all-out (λ x. not (pixel W a x y)) (all-out (λ y. all (λ x. not (pixel W a x y)) (tabulate (λ x. x) W (stride W * 8 - W))) t my) mx)))
+    (all-out (λ x. not (pixel W a x y)) (all-out (λ y. everyOf (λ x. not (pixel W a x y)) (tabulate (λ x. x) W (stride W * 8 - W))) t my) mx)))
 
 -- ---- the part of a set on the frame
 

@@ -11,7 +11,7 @@ use lib.Dec.{T, T-not, eqb, eqb-refl, eqb→eq, leb, le→leb, not-T}
 use lib.ListN.{List·getD-eq-default, getD, length, set}
 use lib.Seq.{getD-set-other, getD-set-same, set-out}
 use Rattle.morphology.specs.Labels.{place, places}
-use Rattle.morphology.specs.Lists.{all, any, upTo}
+use Rattle.morphology.specs.Lists.{everyOf, someOf, upTo}
 use Rattle.morphology.specs.Minimal.{covers, dropAt, dropSize, dropSizes, isRedundant, minimalBelow}
 use Rattle.morphology.specs.Morphology.{times}
 use Rattle.morphology.specs.Point.{Point, _⊞_, samePoint}
@@ -66,7 +66,7 @@ other W B m i z j = not (eqb j i) && covers W B m z j
 
 -- some point of the map covers z
 abbrev pub covered : ℕ → ℕ → List Point → List ℕ → Point → Bool
-covered W H B m z = any (covers W B m z) (upTo (W * H))
+covered W H B m z = someOf (covers W B m z) (upTo (W * H))
 
 module _ (W H : ℕ) (B : List Point) where
   pub covers-out : (m : List ℕ) (z : Point) (j : ℕ) → T (covers W B m z j)
@@ -83,8 +83,8 @@ module _ (W H : ℕ) (B : List Point) where
   redundant-sub : (m′ m : List ℕ) → Sub m′ m → (n i : ℕ) → T (isRedundant W H B n m′ i) → T (isRedundant W H B n m i)
   unfolding isRedundant
   redundant-sub m′ m f n i t =
-      all-in (λ b. any (other W B m i (place W i ⊞ b)) (upTo (W * H))) (times B n) (λ b k.
-      let r = any-out (other W B m′ i (place W i ⊞ b)) (upTo (W * H)) (all-out (λ b. any (other W B m′ i (place W i ⊞ b)) (upTo (W * H))) t k) in
+      all-in (λ b. someOf (other W B m i (place W i ⊞ b)) (upTo (W * H))) (times B n) (λ b k.
+      let r = any-out (other W B m′ i (place W i ⊞ b)) (upTo (W * H)) (all-out (λ b. someOf (other W B m′ i (place W i ⊞ b)) (upTo (W * H))) t k) in
       let j = r .0 in
       any-in (other W B m i (place W i ⊞ b)) (r .1)
       (and-in (not (eqb j i)) (covers W B m (place W i ⊞ b) j) (and-l (not (eqb j i)) (covers W B m′ (place W i ⊞ b) j) (r .2))
@@ -140,7 +140,7 @@ module _ (W H : ℕ) (B : List Point) where
           let o = covers-out m z (r .0) (r .2) in
           let k : o .0 ≡ n = omega (arith, sym (o .2) ∙ ap (λ (k : ℕ). getD m k 0) h ∙ e) in
           let c = subst (λ (s : ℕ). List·Memᴰ (o .1) (times B s)) k (o .3) in
-          let a = all-out (λ b. any (other W B m i (place W i ⊞ b)) (upTo (W * H))) (and-r (eqb (getD m i 0) (suc n)) (isRedundant W H B n m i) u) c in
+          let a = all-out (λ b. someOf (other W B m i (place W i ⊞ b)) (upTo (W * H))) (and-r (eqb (getD m i 0) (suc n)) (isRedundant W H B n m i) u) c in
           let q = any-out (other W B m i (place W i ⊞ o .1)) (upTo (W * H)) a in
           let j = q .0 in
           let z′ = place W i ⊞ o .1 in
@@ -242,13 +242,13 @@ module _ (W H : ℕ) (B : List Point) where
 
   -- ---- a point left covers a pixel alone
 
-  not-all-out : (p : Point → Bool) (l : List Point) → T (not (all p l)) → (a : Point) × List·Memᴰ a l × T (not (p a))
+  not-all-out : (p : Point → Bool) (l : List Point) → T (not (everyOf p l)) → (a : Point) × List·Memᴰ a l × T (not (p a))
   not-all-out p [] t = absurd t
   not-all-out p (x ∷ l) t = go (p x) refl (not-all-out p l)
     where
-      go : (b : Bool) → p x ≡ b → (T (not (all p l)) → (a : Point) × List·Memᴰ a l × T (not (p a)))
+      go : (b : Bool) → p x ≡ b → (T (not (everyOf p l)) → (a : Point) × List·Memᴰ a l × T (not (p a)))
           → (a : Point) × List·Memᴰ a (x ∷ l) × T (not (p a))
-      go true q rest = let r = rest (subst (λ (b : Bool). T (not (b && all p l))) q t) in (r .0, List·Memᴰ·tail (r .1), r .2)
+      go true q rest = let r = rest (subst (λ (b : Bool). T (not (b && everyOf p l))) q t) in (r .0, List·Memᴰ·tail (r .1), r .2)
       go false q rest = (x, List·Memᴰ·head refl, subst (λ (b : Bool). T (not b)) (sym q) tt)
 
   -- a point that is not redundant has a pixel that is lost with it
@@ -256,24 +256,24 @@ module _ (W H : ℕ) (B : List Point) where
       → (z : Point) × T (covered W H B m z) × (T (covered W H B (set m i 0) z) → ⊥)
   unfolding isRedundant stamp
   own-pixel m i n h e f =
-      let r = not-all-out (λ b. any (other W B m i (place W i ⊞ b)) (upTo (W * H))) (times B n) (not-T (isRedundant W H B n m i) f) in
+      let r = not-all-out (λ b. someOf (other W B m i (place W i ⊞ b)) (upTo (W * H))) (times B n) (not-T (isRedundant W H B n m i) f) in
       let b = r .0 in
       let z = place W i ⊞ b in
       let k = subst (λ (j : ℕ). List·Memᴰ j (upTo (W * H))) (zero-add i) (mem-row (λ j. j) 0 (W * H) i h) in (
         z,
         any-in (covers W B m z) k
             (subst (λ (v : ℕ). T (stamp B 0 (place W i) v z)) (sym e)
-            (and-in (leb 0 n) (any (λ c. samePoint z (place W i ⊞ c)) (times B n)) (le→leb 0 n zero-le) (any-in (λ c. samePoint z (place W i ⊞ c)) (r .1) (same-refl z)))),
+            (and-in (leb 0 n) (someOf (λ c. samePoint z (place W i ⊞ c)) (times B n)) (le→leb 0 n zero-le) (any-in (λ c. samePoint z (place W i ⊞ c)) (r .1) (same-refl z)))),
         (λ t.
             let q = any-out (covers W B (set m i 0) z) (upTo (W * H)) t in
             lost z (r .2) (q .0) (q .1) (q .2) (ℕ-discrete (q .0) i)),
       )
     where
-      lost : (z : Point) → T (not (any (other W B m i z) (upTo (W * H)))) → (j : ℕ) → List·Memᴰ j (upTo (W * H)) → T (covers W B (set m i 0) z j)
+      lost : (z : Point) → T (not (someOf (other W B m i z) (upTo (W * H)))) → (j : ℕ) → List·Memᴰ j (upTo (W * H)) → T (covers W B (set m i 0) z j)
           → Dec (j ≡ i) → ⊥
       lost z t j k c (yes q) =
           let o = covers-out (set m i 0) z j c in
           suc-ne-zero (o .0) (sym (o .2) ∙ ap (λ (s : ℕ). getD (set m i 0) s 0) q ∙ getD-dropped m i)
       lost z t j k c (no q) =
-          T-not (any (other W B m i z) (upTo (W * H))) t
+          T-not (someOf (other W B m i z) (upTo (W * H))) t
           (any-in (other W B m i z) k (and-in (not (eqb j i)) (covers W B m z j) (not-T (eqb j i) (λ s. q (eqb→eq j i s))) (covers-sub (set m i 0) m (set-sub m i) z j c)))

@@ -7,7 +7,7 @@ use Prim.Native.Nat.{_+_, _-_, _≤_, max, suc, zero, ℕ}
 use native.Mathlib.Nat.{add-suc, add-zero}
 use native.Mathlib.Omega.{arith}
 use lib.Dec.{T, leb, leb→le, nleb→lt}
-use Rattle.morphology.specs.Morphology.{dilate, erode, opening, sum, times}
+use Rattle.morphology.specs.Morphology.{dilate, erode, minkowski, opening, times}
 use Rattle.morphology.specs.Point.{Point, _⊞_, at, minus, origin}
 use Rattle.morphology.proofs.PointLaws.{assoc, comm, inv, unit}
 use Rattle.morphology.proofs.TestLaws.{T-ext, all-in, all-out, any-in, any-out, decide, map-mem, mem-map}
@@ -92,43 +92,43 @@ unfolding opening
 open-idem B X = open-dilate B (erode B X)
 
 -- ---- sums of elements
-pub sum-in : (A B : List Point) {a b : Point} → List·Memᴰ a A → List·Memᴰ b B → List·Memᴰ (a ⊞ b) (sum A B)
-unfolding sum
-sum-in (x ∷ A) B {b = b} (List·Memᴰ·head e) m = Memᴰ·append-left (sum A B) (Memᴰ·cast (ap (λ (k : Point). k ⊞ b) e) (mem-map (λ c. x ⊞ c) m))
+pub sum-in : (A B : List Point) {a b : Point} → List·Memᴰ a A → List·Memᴰ b B → List·Memᴰ (a ⊞ b) (minkowski A B)
+unfolding minkowski
+sum-in (x ∷ A) B {b = b} (List·Memᴰ·head e) m = Memᴰ·append-left (minkowski A B) (Memᴰ·cast (ap (λ (k : Point). k ⊞ b) e) (mem-map (λ c. x ⊞ c) m))
 sum-in (x ∷ A) B (List·Memᴰ·tail k) m = Memᴰ·append-right (map (λ c. x ⊞ c) B) (sum-in A B k m)
 
-pub sum-out : (A B : List Point) {c : Point} → List·Memᴰ c (sum A B) → (a b : Point) × List·Memᴰ a A × List·Memᴰ b B × (c ≡ a ⊞ b)
-unfolding sum
+pub sum-out : (A B : List Point) {c : Point} → List·Memᴰ c (minkowski A B) → (a b : Point) × List·Memᴰ a A × List·Memᴰ b B × (c ≡ a ⊞ b)
+unfolding minkowski
 sum-out [] B m = absurd (List·Memᴰ·not-nil m)
 sum-out (x ∷ A) B {c} m = go (sum-out A B) (List·Memᴰ·append-cases (map (λ b. x ⊞ b) B) m)
   where
-    go : (List·Memᴰ c (sum A B) → (a b : Point) × List·Memᴰ a A × List·Memᴰ b B × (c ≡ a ⊞ b))
-        → List·Memᴰ c (map (λ b. x ⊞ b) B) ⊎ List·Memᴰ c (sum A B) → (a b : Point) × List·Memᴰ a (x ∷ A) × List·Memᴰ b B × (c ≡ a ⊞ b)
+    go : (List·Memᴰ c (minkowski A B) → (a b : Point) × List·Memᴰ a A × List·Memᴰ b B × (c ≡ a ⊞ b))
+        → List·Memᴰ c (map (λ b. x ⊞ b) B) ⊎ List·Memᴰ c (minkowski A B) → (a b : Point) × List·Memᴰ a (x ∷ A) × List·Memᴰ b B × (c ≡ a ⊞ b)
     go rest (inl k) = let r = map-mem (λ b. x ⊞ b) B k in (x, r .0, List·Memᴰ·head refl, r .1, r .2)
     go rest (inr k) = let r = rest k in (r .0, r .1, List·Memᴰ·tail (r .2), r .3, r .4)
 
 -- eroding by a sum is eroding in turn
-pub erode-sum : (A B : List Point) (X : Point → Bool) → erode (sum A B) X ≡ erode A (erode B X)
+pub erode-sum : (A B : List Point) (X : Point → Bool) → erode (minkowski A B) X ≡ erode A (erode B X)
 erode-sum A B X =
     set-ext
     (λ z t. erode-in A (erode B X) z (λ a k. erode-in B X (z ⊞ a) (λ b m.
-    subst (λ (y : Point). T (X y)) (sym (assoc z a b)) (erode-out (sum A B) X z t (sum-in A B k m)))))
-    (λ z t. erode-in (sum A B) X z (λ c m.
+    subst (λ (y : Point). T (X y)) (sym (assoc z a b)) (erode-out (minkowski A B) X z t (sum-in A B k m)))))
+    (λ z t. erode-in (minkowski A B) X z (λ c m.
     let r = sum-out A B m in
     subst (λ (y : Point). T (X y)) (assoc z (r .0) (r .1) ∙ ap (λ (k : Point). z ⊞ k) (sym (r .4)))
     (erode-out B X (z ⊞ r .0) (erode-out A (erode B X) z t (r .2)) (r .3))))
 
-pub dilate-sum : (A B : List Point) (X : Point → Bool) → dilate (sum A B) X ≡ dilate B (dilate A X)
+pub dilate-sum : (A B : List Point) (X : Point → Bool) → dilate (minkowski A B) X ≡ dilate B (dilate A X)
 dilate-sum A B X =
     set-ext
-    (dilate-sub (sum A B) X (dilate B (dilate A X)) (λ x c t m.
+    (dilate-sub (minkowski A B) X (dilate B (dilate A X)) (λ x c t m.
     let r = sum-out A B m in
     subst (λ (y : Point). T (dilate B (dilate A X) y)) (assoc x (r .0) (r .1) ∙ ap (λ (k : Point). x ⊞ k) (sym (r .4)))
     (dilate-in B (dilate A X) (x ⊞ r .0) (r .1) (dilate-in A X x (r .0) t (r .2)) (r .3))))
-    (dilate-sub B (dilate A X) (dilate (sum A B) X) (λ y b t m.
+    (dilate-sub B (dilate A X) (dilate (minkowski A B) X) (λ y b t m.
     let r = dilate-out A X y t in
-    subst (λ (w : Point). T (dilate (sum A B) X w)) (sym (assoc (r .0) (r .1) b) ∙ ap (λ (k : Point). k ⊞ b) (sym (r .4)))
-    (dilate-in (sum A B) X (r .0) (r .1 ⊞ b) (r .2) (sum-in A B (r .3) m))))
+    subst (λ (w : Point). T (dilate (minkowski A B) X w)) (sym (assoc (r .0) (r .1) b) ∙ ap (λ (k : Point). k ⊞ b) (sym (r .4)))
+    (dilate-in (minkowski A B) X (r .0) (r .1 ⊞ b) (r .2) (sum-in A B (r .3) m))))
 
 -- ---- only the elements of a list matter
 pub erode-same : {A B : List Point} (X : Point → Bool) → Same A B → erode A X ≡ erode B X
@@ -161,7 +161,7 @@ pub times-suc : (B : List Point) (n : ℕ) {a b : Point} → List·Memᴰ a (tim
 unfolding times
 times-suc B n k m = sum-in (times B n) B k m
 
-pub times-add : (B : List Point) (n m : ℕ) → Same (sum (times B n) (times B m)) (times B (n + m))
+pub times-add : (B : List Point) (n m : ℕ) → Same (minkowski (times B n) (times B m)) (times B (n + m))
 times-add B n m = record {
   to = λ k. let r = sum-out (times B n) (times B m) k in Memᴰ·cast (r .4) (times-in B n m (r .2) (r .3));
   fro = λ k. let r = times-out B n m k in Memᴰ·cast (r .4) (sum-in (times B n) (times B m) (r .2) (r .3));
@@ -197,7 +197,7 @@ open-below B k m X h =
     ap (opening (times B m)) p ∙ open-dilate (times B m) (dilate (times B (k - m)) Y) ∙ sym p
 
 -- ---- sizes
-sum-comm : (A B : List Point) → Same (sum A B) (sum B A)
+sum-comm : (A B : List Point) → Same (minkowski A B) (minkowski B A)
 sum-comm A B = record {
   to = λ k. let r = sum-out A B k in Memᴰ·cast (r .4 ∙ comm (r .0) (r .1)) (sum-in B A (r .3) (r .2));
   fro = λ k. let r = sum-out B A k in Memᴰ·cast (r .4 ∙ comm (r .0) (r .1)) (sum-in A B (r .3) (r .2));

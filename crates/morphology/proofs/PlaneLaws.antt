@@ -12,7 +12,7 @@ use lib.ListN.{getD, length, replicate}
 use lib.Pow.{areBytes}
 use Rattle.morphology.specs.Image.{fromBits, imageSet, isClean, onesOf, pack, planeBytes, stride}
 use Rattle.morphology.specs.Labels.{area, place, places}
-use Rattle.morphology.specs.Lists.{any, count, tabulate}
+use Rattle.morphology.specs.Lists.{countOf, someOf, tabulate}
 use Rattle.morphology.specs.Point.{Point}
 use Rattle.morphology.proofs.AreaLaws.{area-ones}
 use Rattle.morphology.proofs.CountLaws.{count-le, count-none, count-some, count-suc, count-sum, digit}
@@ -118,14 +118,14 @@ area-pack W H X on =
 
 pub area-le : (W H : ℕ) (X : Point → Bool) → area W H X ≤ W * H
 unfolding area places
-area-le W H X = subst (λ (n : ℕ). count X (places W H) ≤ n) (length-row (place W) 0 (W * H)) (count-le X (places W H))
+area-le W H X = subst (λ (n : ℕ). countOf X (places W H) ≤ n) (length-row (place W) 0 (W * H)) (count-le X (places W H))
 
 -- place by place
 unfoldable pub areaBelow : ℕ → (Point → Bool) → ℕ → ℕ
-areaBelow W X i = count X (tabulate (place W) 0 i)
+areaBelow W X i = countOf X (tabulate (place W) 0 i)
 
 pub area-start : (W : ℕ) (X : Point → Bool) → areaBelow W X 0 ≡ 0
-unfolding areaBelow count tabulate
+unfolding areaBelow countOf tabulate
 area-start W X = refl
 
 pub area-turn : (W : ℕ) (X : Point → Bool) (i : ℕ) → areaBelow W X (i + 1) ≡ areaBelow W X i + digit (X (place W i))
@@ -150,8 +150,8 @@ area-less W H X Y f = count-sum X (λ z. X z && not (Y z)) Y (place W) (place W)
 
 -- a set on the frame that is not empty has a point
 pub some-point : (W H : ℕ) (X : Point → Bool) → OnFrame W H X → (Empty X → ⊥) → (z : Point) × T (X z)
-some-point W H X on f = go (decide (any X (places W H)))
+some-point W H X on f = go (decide (someOf X (places W H)))
   where
-    go : T (any X (places W H)) ⊎ T (not (any X (places W H))) → (z : Point) × T (X z)
+    go : T (someOf X (places W H)) ⊎ T (not (someOf X (places W H))) → (z : Point) × T (X z)
     go (inl t) = let r = any-out X (places W H) t in (r .0, r .2)
-    go (inr t) = absurd (f (λ z u. T-not (any X (places W H)) t (any-in X (on-places W H X on z u) u)))
+    go (inr t) = absurd (f (λ z u. T-not (someOf X (places W H)) t (any-in X (on-places W H X on z u) u)))

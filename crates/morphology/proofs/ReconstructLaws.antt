@@ -12,7 +12,7 @@ use lib.IntN.{negsuc, pos, ℤ}
 use lib.ListN.{getD}
 use Rattle.morphology.specs.Image.{imageSet, inside, onFrame, pack}
 use Rattle.morphology.specs.Labels.{labelAt, places}
-use Rattle.morphology.specs.Lists.{all, any}
+use Rattle.morphology.specs.Lists.{everyOf, someOf}
 use Rattle.morphology.specs.Morphology.{dilate, times}
 use Rattle.morphology.specs.Partial.{partialStamp, partialUnion}
 use Rattle.morphology.specs.Point.{Point, _⊞_, at, origin, samePoint}
@@ -49,7 +49,7 @@ stamp-at : (B : List Point) (n : ℕ) (p : Point) (l : ℕ) (z : Point) → T (p
 unfolding partialStamp
 stamp-at B n p zero z t = absurd t
 stamp-at B n p (suc j) z t =
-    let s = any (λ c. samePoint z (p ⊞ c)) (times B (j - n)) in
+    let s = someOf (λ c. samePoint z (p ⊞ c)) (times B (j - n)) in
     let r = any-out (λ c. samePoint z (p ⊞ c)) (times B (j - n)) (and-r (leb n j) s t) in
     (j, r .0, refl, leb→le n j (and-l (leb n j) s t), r .1, same-eq z (p ⊞ r .0) (r .2))
 
@@ -60,7 +60,7 @@ module _ (W H : ℕ) (B : List Point) (M : Point → ℕ) where
   partial-in n j {p} {c} m e h k =
       any-in (λ q. partialStamp B n q (M q) (p ⊞ c)) m
       (subst (λ (l : ℕ). T (partialStamp B n p l (p ⊞ c))) (sym e)
-      (and-in (leb n j) (any (λ d. samePoint (p ⊞ c) (p ⊞ d)) (times B (j - n))) (le→leb n j h) (any-in (λ d. samePoint (p ⊞ c) (p ⊞ d)) k (same-refl (p ⊞ c)))))
+      (and-in (leb n j) (someOf (λ d. samePoint (p ⊞ c) (p ⊞ d)) (times B (j - n))) (le→leb n j h) (any-in (λ d. samePoint (p ⊞ c) (p ⊞ d)) k (same-refl (p ⊞ c)))))
 
   pub partial-out : (n : ℕ) (z : Point) → T (partialUnion W H B n M z)
       → (p : Point) × (j : ℕ) × (c : Point) × List·Memᴰ p (places W H) × (M p ≡ suc j) × (n ≤ j) × List·Memᴰ c (times B (j - n)) × (z ≡ p ⊞ c)
@@ -190,17 +190,17 @@ module _ (W H : ℕ) (B : List Point) (el : Element B) (m : List ℕ) where
     -- a kept point dilated to its size stays on the frame
     pub kept-on : (p : Point) (j : ℕ) {c : Point} → labelAt W H m p ≡ suc j → k ≤ j → List·Memᴰ c (times B j) → T (onFrame W H (p ⊞ c))
     unfolding isWild leaves
-    kept-on p j {c} q h l = all-out f (go (decide (all f (times B j)))) l
+    kept-on p j {c} q h l = all-out f (go (decide (everyOf f (times B j)))) l
       where
         f : Point → Bool
         f b = onFrame W H (p ⊞ b)
 
-        go : T (all f (times B j)) ⊎ T (not (all f (times B j))) → T (all f (times B j))
+        go : T (everyOf f (times B j)) ⊎ T (not (everyOf f (times B j))) → T (everyOf f (times B j))
         go (inl t) = t
         go (inr t) =
             absurd (subst T tame
             (any-in (λ q. leaves W H B k q (labelAt W H m q)) (label-on W H m p j q)
-            (subst (λ (v : ℕ). T (leaves W H B k p v)) (sym q) (and-in (leb k j) (not (all f (times B j))) (le→leb k j h) t))))
+            (subst (λ (v : ℕ). T (leaves W H B k p v)) (sym q) (and-in (leb k j) (not (everyOf f (times B j))) (le→leb k j h) t))))
 
     -- no union from the cut on leaves the frame, nor one of its n dilations: nothing is ever clipped
     pub union-on : (n i : ℕ) → k ≤ n → i ≤ n → OnFrame W H (dilate (times B i) (unionAt n))

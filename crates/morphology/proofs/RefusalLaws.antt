@@ -10,7 +10,7 @@ use lib.ListN.{length}
 use Rattle.morphology.specs.Answers.{Outcome, outcome, refused}
 use Rattle.morphology.specs.Element.{isElement, offsets}
 use Rattle.morphology.specs.Image.{isClean, planeBytes}
-use Rattle.morphology.specs.Lists.{all, any}
+use Rattle.morphology.specs.Lists.{everyOf, someOf}
 use Rattle.morphology.specs.Operations.{decomposeRows, reconstructRows}
 use Rattle.morphology.specs.Refusals.{Row, firstRefusal, imageRows, isSide, isWild, maxSide, notPlane, row3, unless}
 use Rattle.morphology.proofs.TestLaws.{and-l, and-r}
@@ -75,7 +75,7 @@ first-row n e q = q ∙ ap (λ (b : Bool). firstRefusal ((n, b) ∷ [])) e
 
 -- no row has the number 0
 abbrev pub numbered : List Row → Bool
-numbered rows = all (λ r. not (eqb (r .0) 0)) rows
+numbered rows = everyOf (λ r. not (eqb (r .0) 0)) rows
 
 pub first-append : (xs ys : List Row) → T (numbered xs) → firstRefusal (xs ++ ys) ≡ cond (eqb (firstRefusal xs) 0) (firstRefusal ys) (firstRefusal xs)
 unfolding firstRefusal
@@ -142,7 +142,7 @@ three-out a b c e =
     (p .0, q .0, or-out-false c false (q .1) .0)
 
 -- row 3 of three, joined as the code has it
-pub lengths-joined : (a b c : Bool) → (a || (b || c)) ≡ any (λ t. t) (a ∷ b ∷ c ∷ [])
+pub lengths-joined : (a b c : Bool) → (a || (b || c)) ≡ someOf (λ t. t) (a ∷ b ∷ c ∷ [])
 lengths-joined true b c = refl
 lengths-joined false true c = refl
 lengths-joined false false true = refl

@@ -12,7 +12,7 @@ use lib.IntN.{pos}
 use lib.ListN.{getD}
 use Rattle.morphology.specs.Image.{inside, onFrame}
 use Rattle.morphology.specs.Labels.{labelAt, places, raster}
-use Rattle.morphology.specs.Lists.{all, any}
+use Rattle.morphology.specs.Lists.{everyOf, someOf}
 use Rattle.morphology.specs.Morphology.{erode, opening, times}
 use Rattle.morphology.specs.Point.{Point, _⊞_, at}
 use Rattle.morphology.specs.Refusals.{isWild, leaves}
@@ -24,7 +24,7 @@ use Rattle.morphology.proofs.MorphologyLaws.{erode-out, eroded-zero, op
 use Rattle.morphology.proofs.SubsetLaws.{eroded-down, label-of, label-open, of-label, reconstruct-open, subset-in}
 use Rattle.morphology.proofs.TestLaws.{all-in, and-in, and-r, any-out}
 
-pub any-agree : {A : Type 0} (p q : A → Bool) (l : List A) → ((a : A) → List·Memᴰ a l → p a ≡ q a) → any p l ≡ any q l
+pub any-agree : {A : Type 0} (p q : A → Bool) (l : List A) → ((a : A) → List·Memᴰ a l → p a ≡ q a) → someOf p l ≡ someOf q l
 any-agree p q [] f = refl
 any-agree p q (a ∷ l) f = ap₂ (λ (x y : Bool). x || y) (f a (List·Memᴰ·head refl)) (any-agree p q l (λ b m. f b (List·Memᴰ·tail m)))
 
@@ -117,7 +117,7 @@ module _ (W H : ℕ) (B : List Point) (el : Element B) (X : Point → Bool) (on 
       go p zero q t = t
       go p (suc n) q t =
           let s = subset-in B (el .centred) X n p (of-label B (el .centred) X (max W H) n p q .0) in
-          T-not (all (λ b. onFrame W H (p ⊞ b)) (times B n)) (and-r (leb k n) (not (all (λ b. onFrame W H (p ⊞ b)) (times B n))) t)
+          T-not (everyOf (λ b. onFrame W H (p ⊞ b)) (times B n)) (and-r (leb k n) (not (everyOf (λ b. onFrame W H (p ⊞ b)) (times B n))) t)
           (all-in (λ b. onFrame W H (p ⊞ b)) (times B n) (λ b m.
           let u = erode-out (times B n) X p s m in
           and-in (inside W ((p ⊞ b) .x)) (inside H ((p ⊞ b) .y)) (on .across (p ⊞ b) u) (on .down (p ⊞ b) u)))

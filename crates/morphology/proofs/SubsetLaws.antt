@@ -8,7 +8,7 @@ use native.Mathlib.Nat.{add-suc, le-of-suc-le-suc, le-refl, not-suc-le-zero, suc
 use native.Mathlib.Omega.{arith}
 use lib.Arith.{lt-of-le-ne}
 use lib.Dec.{T, T-not, leb, leb→le, le→leb, nleb→lt}
-use Rattle.morphology.specs.Lists.{any}
+use Rattle.morphology.specs.Lists.{someOf}
 use Rattle.morphology.specs.Morphology.{dilate, erode, opening, times}
 use Rattle.morphology.specs.Point.{Point, _⊞_, origin, samePoint}
 use Rattle.morphology.specs.Skeleton.{pick, reconstruct, skeletonFunction, skeletonSubset, stamp}
@@ -43,15 +43,15 @@ module _ (P B : List Point) where
   reconstruct-in k n M p c m e h l =
       any-in (λ q. stamp B k q (M q) (p ⊞ c)) m
       (subst (λ (i : ℕ). T (stamp B k p i (p ⊞ c))) (sym e)
-      (and-in (leb k n) (any (λ d. samePoint (p ⊞ c) (p ⊞ d)) (times B n)) (le→leb k n h) (any-in (λ d. samePoint (p ⊞ c) (p ⊞ d)) l (same-refl (p ⊞ c)))))
+      (and-in (leb k n) (someOf (λ d. samePoint (p ⊞ c) (p ⊞ d)) (times B n)) (le→leb k n h) (any-in (λ d. samePoint (p ⊞ c) (p ⊞ d)) l (same-refl (p ⊞ c)))))
 
   pub stamp-out : (k : ℕ) (p : Point) (l : ℕ) (z : Point) → T (stamp B k p l z)
       → (n : ℕ) × (c : Point) × (l ≡ suc n) × (k ≤ n) × List·Memᴰ c (times B n) × (z ≡ p ⊞ c)
   unfolding stamp
   stamp-out k p zero z t = absurd t
   stamp-out k p (suc n) z t =
-      let r = any-out (λ d. samePoint z (p ⊞ d)) (times B n) (and-r (leb k n) (any (λ d. samePoint z (p ⊞ d)) (times B n)) t) in
-      (n, r .0, refl, leb→le k n (and-l (leb k n) (any (λ d. samePoint z (p ⊞ d)) (times B n)) t), r .1, same-eq z (p ⊞ r .0) (r .2))
+      let r = any-out (λ d. samePoint z (p ⊞ d)) (times B n) (and-r (leb k n) (someOf (λ d. samePoint z (p ⊞ d)) (times B n)) t) in
+      (n, r .0, refl, leb→le k n (and-l (leb k n) (someOf (λ d. samePoint z (p ⊞ d)) (times B n)) t), r .1, same-eq z (p ⊞ r .0) (r .2))
 
   pub reconstruct-out : (k : ℕ) (M : Point → ℕ) (z : Point) → T (reconstruct P B k M z)
       → (p : Point) × (n : ℕ) × (c : Point) × (M p ≡ suc n) × (k ≤ n) × List·Memᴰ c (times B n) × (z ≡ p ⊞ c)

@@ -7,7 +7,7 @@ use Prim.Native.Nat.{_<_, suc, zero, ℕ}
 use native.Mathlib.Nat.{le-of-suc-le-suc, not-suc-le-zero}
 use lib.Arith.{lt-of-le-ne}
 use lib.Dec.{T, T-not, eqb, eqb-refl, eqb→eq}
-use Rattle.morphology.specs.Lists.{all, any}
+use Rattle.morphology.specs.Lists.{everyOf, someOf}
 
 -- equal tests
 pub T-ext : {a b : Bool} → (T a → T b) → (T b → T a) → a ≡ b
@@ -45,23 +45,23 @@ decide true = inl tt
 decide false = inr tt
 
 module _ {ℓ} {A : Type ℓ} where
-  pub all-out : (p : A → Bool) {a : A} {l : List A} → T (all p l) → List·Memᴰ a l → T (p a)
-  all-out p t (List·Memᴰ·head {x} {xs} e) = subst (λ (b : A). T (p b)) (sym e) (and-l (p x) (all p xs) t)
-  all-out p t (List·Memᴰ·tail {x} {xs} m) = all-out p (and-r (p x) (all p xs) t) m
+  pub all-out : (p : A → Bool) {a : A} {l : List A} → T (everyOf p l) → List·Memᴰ a l → T (p a)
+  all-out p t (List·Memᴰ·head {x} {xs} e) = subst (λ (b : A). T (p b)) (sym e) (and-l (p x) (everyOf p xs) t)
+  all-out p t (List·Memᴰ·tail {x} {xs} m) = all-out p (and-r (p x) (everyOf p xs) t) m
 
-  pub all-in : (p : A → Bool) (l : List A) → ((a : A) → List·Memᴰ a l → T (p a)) → T (all p l)
+  pub all-in : (p : A → Bool) (l : List A) → ((a : A) → List·Memᴰ a l → T (p a)) → T (everyOf p l)
   all-in p [] f = tt
-  all-in p (x ∷ l) f = and-in (p x) (all p l) (f x (List·Memᴰ·head refl)) (all-in p l (λ a m. f a (List·Memᴰ·tail m)))
+  all-in p (x ∷ l) f = and-in (p x) (everyOf p l) (f x (List·Memᴰ·head refl)) (all-in p l (λ a m. f a (List·Memᴰ·tail m)))
 
-  pub any-in : (p : A → Bool) {a : A} {l : List A} → List·Memᴰ a l → T (p a) → T (any p l)
-  any-in p (List·Memᴰ·head {x} {xs} e) t = or-l (p x) (any p xs) (subst (λ (b : A). T (p b)) e t)
-  any-in p (List·Memᴰ·tail {x} {xs} m) t = or-r (p x) (any p xs) (any-in p m t)
+  pub any-in : (p : A → Bool) {a : A} {l : List A} → List·Memᴰ a l → T (p a) → T (someOf p l)
+  any-in p (List·Memᴰ·head {x} {xs} e) t = or-l (p x) (someOf p xs) (subst (λ (b : A). T (p b)) e t)
+  any-in p (List·Memᴰ·tail {x} {xs} m) t = or-r (p x) (someOf p xs) (any-in p m t)
 
-  pub any-out : (p : A → Bool) (l : List A) → T (any p l) → (a : A) × List·Memᴰ a l × T (p a)
+  pub any-out : (p : A → Bool) (l : List A) → T (someOf p l) → (a : A) × List·Memᴰ a l × T (p a)
   any-out p [] t = absurd t
-  any-out p (x ∷ l) t = go (any-out p l) (or-out (p x) (any p l) t)
+  any-out p (x ∷ l) t = go (any-out p l) (or-out (p x) (someOf p l) t)
     where
-      go : (T (any p l) → (a : A) × List·Memᴰ a l × T (p a)) → T (p x) ⊎ T (any p l) → (a : A) × List·Memᴰ a (x ∷ l) × T (p a)
+      go : (T (someOf p l) → (a : A) × List·Memᴰ a l × T (p a)) → T (p x) ⊎ T (someOf p l) → (a : A) × List·Memᴰ a (x ∷ l) × T (p a)
       go rest (inl s) = (x, List·Memᴰ·head refl, s)
       go rest (inr s) = let r = rest s in (r .0, List·Memᴰ·tail (r .1), r .2)
 

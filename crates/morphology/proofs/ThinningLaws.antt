@@ -9,7 +9,7 @@ use borrow.Author.Tests.{eqb-false, eqb-true}
 use lib.Dec.{T, eqb}
 use Rattle.morphology.specs.Image.{imageSet, pack}
 use Rattle.morphology.specs.Labels.{area, places}
-use Rattle.morphology.specs.Lists.{count}
+use Rattle.morphology.specs.Lists.{countOf}
 use Rattle.morphology.specs.Point.{Point}
 use Rattle.morphology.specs.Thinning.{Thinned, golayL, hit, thinPass, thinPasses, thinStep}
 use Rattle.morphology.proofs.FrameLaws.{OnFrame}
@@ -20,31 +20,31 @@ use Rattle.morphology.proofs.TestLaws.{and-l}
 
 -- ---- counts of a part
 
-pub count-part : {A : Type 0} (p q : A → Bool) (l : List A) → ((a : A) → T (p a) → T (q a)) → count p l ≤ count q l
-unfolding count
+pub count-part : {A : Type 0} (p q : A → Bool) (l : List A) → ((a : A) → T (p a) → T (q a)) → countOf p l ≤ countOf q l
+unfolding countOf
 count-part p q [] f = le-refl 0
 count-part p q (a ∷ l) f = go (p a) (q a) (f a) (count-part p q l f)
   where
-    go : (b c : Bool) → (T b → T c) → count p l ≤ count q l → cond b 1 0 + count p l ≤ cond c 1 0 + count q l
+    go : (b c : Bool) → (T b → T c) → countOf p l ≤ countOf q l → cond b 1 0 + countOf p l ≤ cond c 1 0 + countOf q l
     go true true g h = omega arith
     go true false g h = absurd (g tt)
     go false true g h = omega arith
     go false false g h = omega arith
 
 -- a part with the same count is the whole
-pub count-whole : {A : Type 0} (p q : A → Bool) {a : A} (l : List A) → ((b : A) → T (p b) → T (q b)) → count p l ≡ count q l → List·Memᴰ a l → T (q a)
+pub count-whole : {A : Type 0} (p q : A → Bool) {a : A} (l : List A) → ((b : A) → T (p b) → T (q b)) → countOf p l ≡ countOf q l → List·Memᴰ a l → T (q a)
     → T (p a)
-unfolding count
+unfolding countOf
 count-whole p q {a} (x ∷ l) f e (List·Memᴰ·head r) t =
     subst (λ (b : _). T (p b)) (sym r) (go (p x) (q x) e (subst (λ (b : _). T (q b)) r t))
   where
-    go : (b c : Bool) → cond b 1 0 + count p l ≡ cond c 1 0 + count q l → T c → T b
+    go : (b c : Bool) → cond b 1 0 + countOf p l ≡ cond c 1 0 + countOf q l → T c → T b
     go true c h u = tt
     go false true h u = absurd (omega (arith, h, count-part p q l f))
     go false false h u = u
 count-whole p q {a} (x ∷ l) f e (List·Memᴰ·tail k) t = count-whole p q l f (go (p x) (q x) (f x) e) k t
   where
-    go : (b c : Bool) → (T b → T c) → cond b 1 0 + count p l ≡ cond c 1 0 + count q l → count p l ≡ count q l
+    go : (b c : Bool) → (T b → T c) → cond b 1 0 + countOf p l ≡ cond c 1 0 + countOf q l → countOf p l ≡ countOf q l
     go true true g h = omega arith
     go true false g h = absurd (g tt)
     go false true g h = absurd (omega (arith, h, count-part p q l f))

@@ -5,7 +5,7 @@ use Prim.Native.Nat.{_%_, _*_, _+_, _/_, _^_, suc, zero, ℕ}
 use lib.Dec.{eqb, leb, ltb}
 use lib.IntN.{subℕ}
 use lib.ListN.{length}
-use Rattle.morphology.specs.Lists.{all, upTo}
+use Rattle.morphology.specs.Lists.{everyOf, upTo}
 use Rattle.morphology.specs.Point.{Point, at}
 
 -- bit i of n
@@ -37,4 +37,4 @@ maskOffsets n = offsetsBelow 1 n 9
 
 -- no bit above 8, the centre in the foreground, no bit in both
 unfoldable pub isMask : ℕ × ℕ → Bool
-isMask m = (ltb (m .0) (2 ^ 9) && ltb (m .1) (2 ^ 9)) && (bit (m .0) 4 && all (λ i. not (bit (m .0) i && bit (m .1) i)) (upTo 9))
+isMask m = (ltb (m .0) (2 ^ 9) && ltb (m .1) (2 ^ 9)) && (bit (m .0) 4 && everyOf (λ i. not (bit (m .0) i && bit (m .1) i)) (upTo 9))

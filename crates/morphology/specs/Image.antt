@@ -7,7 +7,7 @@ use lib.Count.{ones}
 use lib.Dec.{eqb, ltb}
 use lib.IntN.{negsuc, pos, ℤ}
 use lib.ListN.{getD}
-use Rattle.morphology.specs.Lists.{all, tabulate, upTo}
+use Rattle.morphology.specs.Lists.{everyOf, tabulate, upTo}
 use Rattle.morphology.specs.Point.{Point, at}
 
 -- ---- the frame
@@ -44,7 +44,7 @@ pixel W s x y = bitOf (getD s (y * stride W + x / 8) 0) (x % 8)
 
 -- no 1 in the padding ("unused bits" in 01): the pixels of each row from W on
 unfoldable pub isClean : ℕ → ℕ → List ℕ → Bool
-isClean W H s = all (λ y. all (λ x. not (pixel W s x y)) (tabulate (λ x. x) W (stride W * 8 - W))) (upTo H)
+isClean W H s = everyOf (λ y. everyOf (λ x. not (pixel W s x y)) (tabulate (λ x. x) W (stride W * 8 - W))) (upTo H)
 
 -- ---- an image is a set of points, and a set of points is an image
 

@@ -6,7 +6,7 @@ use Prim.Native.Nat.{_%_, _*_, _+_, _/_, ℕ}
 use lib.Dec.{eqb, ltb}
 use lib.IntN.{negsuc, pos, ℤ}
 use lib.ListN.{getD}
-use Rattle.morphology.specs.Lists.{count, tabulate}
+use Rattle.morphology.specs.Lists.{countOf, tabulate}
 use Rattle.morphology.specs.Point.{Point, at}
 
 -- the frame's place i, row after row
@@ -32,8 +32,8 @@ labelAt W H m p = onPlane (p .x) (p .y)
 
 -- the number of points of a label buffer
 abbrev pub pointsOf : List ℕ → ℕ
-pointsOf m = count (λ v. not (eqb v 0)) m
+pointsOf m = countOf (λ v. not (eqb v 0)) m
 
 -- the number of foreground points ("ink points" in 01)
 unfoldable pub area : ℕ → ℕ → (Point → Bool) → ℕ
-area W H X = count X (places W H)
+area W H X = countOf X (places W H)

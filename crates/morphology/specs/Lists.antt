@@ -5,19 +5,19 @@ use Prim.Native.Nat.{_+_, max, suc, zero, ℕ}
 
 module _ {ℓ} {A : Type ℓ} where
   -- every member passes
-  abbrev pub all : (A → Bool) → List A → Bool
-  all p [] = true
-  all p (a ∷ l) = p a && all p l
+  abbrev pub everyOf : (A → Bool) → List A → Bool
+  everyOf p [] = true
+  everyOf p (a ∷ l) = p a && everyOf p l
 
   -- some member passes
-  abbrev pub any : (A → Bool) → List A → Bool
-  any p [] = false
-  any p (a ∷ l) = p a || any p l
+  abbrev pub someOf : (A → Bool) → List A → Bool
+  someOf p [] = false
+  someOf p (a ∷ l) = p a || someOf p l
 
 -- how many members pass
-unfoldable pub count : {A : Type 0} → (A → Bool) → List A → ℕ
-count p [] = 0
-count p (a ∷ l) = cond (p a) 1 0 + count p l
+unfoldable pub countOf : {A : Type 0} → (A → Bool) → List A → ℕ
+countOf p [] = 0
+countOf p (a ∷ l) = cond (p a) 1 0 + countOf p l
 
 -- the largest member, 0 if there is none
 unfoldable pub greatest : List ℕ → ℕ

@@ -5,7 +5,7 @@ use Prim.Native.Nat.{_*_, suc, ℕ}
 use lib.Dec.{eqb}
 use lib.ListN.{getD, set}
 use Rattle.morphology.specs.Labels.{place}
-use Rattle.morphology.specs.Lists.{all, any, greatest, upTo}
+use Rattle.morphology.specs.Lists.{everyOf, greatest, someOf, upTo}
 use Rattle.morphology.specs.Morphology.{times}
 use Rattle.morphology.specs.Point.{Point, _⊞_}
 use Rattle.morphology.specs.Skeleton.{stamp}
@@ -16,7 +16,7 @@ covers W B m z j = stamp B 0 (place W j) (getD m j 0) z
 
 -- each pixel that the point at place i covers, its size n, is covered by another point of the map m
 unfoldable pub isRedundant : ℕ → ℕ → List Point → ℕ → List ℕ → ℕ → Bool
-isRedundant W H B n m i = all (λ b. any (λ j. not (eqb j i) && covers W B m (place W i ⊞ b) j) (upTo (W * H))) (times B n)
+isRedundant W H B n m i = everyOf (λ b. someOf (λ j. not (eqb j i) && covers W B m (place W i ⊞ b) j) (upTo (W * H))) (times B n)
 
 -- place i is dropped where it holds a redundant point of size n
 unfoldable pub dropAt : ℕ → ℕ → List Point → ℕ → List ℕ → ℕ → List ℕ

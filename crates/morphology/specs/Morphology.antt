@@ -4,26 +4,26 @@ use mathlib.Core.Bool.{Bool}
 use mathlib.Core.List.{List, [], _++_, _∷_, map}
 use Prim.Native.Nat.{suc, zero, ℕ}
 use Rattle.morphology.specs.Point.{Point, _⊞_, minus, origin}
-use Rattle.morphology.specs.Lists.{all, any}
+use Rattle.morphology.specs.Lists.{everyOf, someOf}
 
 -- every z with z + b in X for all b in B
 unfoldable pub erode : List Point → (Point → Bool) → (Point → Bool)
-erode B X z = all (λ b. X (z ⊞ b)) B
+erode B X z = everyOf (λ b. X (z ⊞ b)) B
 
 -- dilation ("growing" in 01): every x + b
 unfoldable pub dilate : List Point → (Point → Bool) → (Point → Bool)
-dilate B X z = any (λ b. X (z ⊞ minus b)) B
+dilate B X z = someOf (λ b. X (z ⊞ minus b)) B
 
 -- erosion, then dilation, by the same B
 unfoldable pub opening : List Point → (Point → Bool) → (Point → Bool)
 opening B X = dilate B (erode B X)
 
 -- Minkowski sum: A dilated by B, as a list
-unfoldable pub sum : List Point → List Point → List Point
-sum [] B = []
-sum (a ∷ A) B = map (λ b. a ⊞ b) B ++ sum A B
+unfoldable pub minkowski : List Point → List Point → List Point
+minkowski [] B = []
+minkowski (a ∷ A) B = map (λ b. a ⊞ b) B ++ minkowski A B
 
 -- the n-fold element nB: the origin alone, then dilated by B n times
 unfoldable pub times : List Point → ℕ → List Point
 times B zero = origin ∷ []
-times B (suc n) = sum (times B n) B
+times B (suc n) = minkowski (times B n) B

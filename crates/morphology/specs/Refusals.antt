@@ -8,7 +8,7 @@ use Rattle.morphology.specs.Answers.{Outcome, outcome, refused}
 use Rattle.morphology.specs.Element.{isElement, isMask}
 use Rattle.morphology.specs.Image.{isClean, onFrame, planeBytes}
 use Rattle.morphology.specs.Labels.{labelAt, places}
-use Rattle.morphology.specs.Lists.{all, any}
+use Rattle.morphology.specs.Lists.{everyOf, someOf}
 use Rattle.morphology.specs.Morphology.{times}
 use Rattle.morphology.specs.Point.{Point, _⊞_}
 
@@ -32,11 +32,11 @@ shortWork W H w = ltb (length w) (3 * planeBytes W H)
 -- a point p with this label, kept from cut k on, leaves the frame when it is dilated to its size
 unfoldable pub leaves : ℕ → ℕ → List Point → ℕ → Point → ℕ → Bool
 leaves W H B k p zero = false
-leaves W H B k p (suc n) = leb k n && not (all (λ b. onFrame W H (p ⊞ b)) (times B n))
+leaves W H B k p (suc n) = leb k n && not (everyOf (λ b. onFrame W H (p ⊞ b)) (times B n))
 
 -- a point of the map m does
 unfoldable pub isWild : ℕ → ℕ → List Point → ℕ → List ℕ → Bool
-isWild W H B k m = any (λ p. leaves W H B k p (labelAt W H m p)) (places W H)
+isWild W H B k m = someOf (λ p. leaves W H B k p (labelAt W H m p)) (places W H)
 
 -- ---- the rows: a number, and given exactly when
 
@@ -53,7 +53,7 @@ row2 e = (2, not (isElement e))
 
 -- a lent buffer has a wrong length: the tests above, of each buffer
 abbrev pub row3 : List Bool → Row
-row3 wrong = (3, any (λ b. b) wrong)
+row3 wrong = (3, someOf (λ b. b) wrong)
 
 -- an image that is read has a 1 in the padding
 abbrev pub row4 : ℕ → ℕ → List ℕ → Row

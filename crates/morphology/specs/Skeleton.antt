@@ -4,7 +4,7 @@ use mathlib.Core.List.{List}
 use Prim.Native.Nat.{max, suc, zero, ℕ}
 use lib.Dec.{leb}
 use Rattle.morphology.specs.Labels.{labelAt, places, raster}
-use Rattle.morphology.specs.Lists.{any}
+use Rattle.morphology.specs.Lists.{someOf}
 use Rattle.morphology.specs.Morphology.{erode, opening, times}
 use Rattle.morphology.specs.Point.{Point, _⊞_, samePoint}
 
@@ -32,11 +32,11 @@ skeletonLabels W H B X = raster W H (skeletonFunction B X (max W H))
 -- what a point p with a label adds: nB moved to p, where its size n is k or more
 unfoldable pub stamp : List Point → ℕ → Point → ℕ → (Point → Bool)
 stamp B k p zero z = false
-stamp B k p (suc n) z = leb k n && any (λ c. samePoint z (p ⊞ c)) (times B n)
+stamp B k p (suc n) z = leb k n && someOf (λ c. samePoint z (p ⊞ c)) (times B n)
 
 -- the union over the points P
 unfoldable pub reconstruct : List Point → List Point → ℕ → (Point → ℕ) → (Point → Bool)
-reconstruct P B k M z = any (λ p. stamp B k p (M p) z) P
+reconstruct P B k M z = someOf (λ p. stamp B k p (M p) z) P
 
 -- of a label buffer
 unfoldable pub reconstruction : ℕ → ℕ → List Point → ℕ → List ℕ → (Point → Bool)

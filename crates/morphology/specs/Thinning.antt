@@ -7,11 +7,11 @@ use Rattle.morphology.specs.Element.{maskOffsets}
 use Rattle.morphology.specs.Image.{imageSet, pack}
 use Rattle.morphology.specs.Labels.{area}
 use Rattle.morphology.specs.Point.{Point, _⊞_}
-use Rattle.morphology.specs.Lists.{all}
+use Rattle.morphology.specs.Lists.{everyOf}
 
 -- all foreground offsets fall on the foreground, all background offsets on the background
 unfoldable pub hit : ℕ × ℕ → (Point → Bool) → (Point → Bool)
-hit m X z = all (λ b. X (z ⊞ b)) (maskOffsets (m .0)) && all (λ b. not (X (z ⊞ b))) (maskOffsets (m .1))
+hit m X z = everyOf (λ b. X (z ⊞ b)) (maskOffsets (m .0)) && everyOf (λ b. not (X (z ⊞ b))) (maskOffsets (m .1))
 
 -- the house set (Golay's L and its turns): foreground, background
 abbrev pub golayL : List (ℕ × ℕ)

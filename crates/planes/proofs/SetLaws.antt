@@ -17,7 +17,7 @@ use Rattle.morphology.specs.Element.{bit, offset, offsets, offsetsBelow}
 use Rattle.morphology.specs.Image.{bitOf, fromBits, imageSet, isClean, pack, pixel, planeBytes, stride}
 use Rattle.morphology.specs.Morphology.{dilate, erode}
 use Rattle.morphology.specs.Point.{Point, _⊞_, at, minus}
-use Rattle.morphology.specs.Lists.{all, any, tabulate, upTo}
+use Rattle.morphology.specs.Lists.{everyOf, someOf, tabulate, upTo}
 use Rattle.morphology.proofs.FrameLaws.{OnFrame}
 use Rattle.morphology.proofs.ImageLaws.{bits-of, getD-row, image-on, length-row, mem-row}
 use Rattle.morphology.proofs.OffsetLaws.{inside-sub, outside-sub, pos-sub}
@@ -49,7 +49,7 @@ pixel-image W H s clean x y hx hy = go (decLt x W)
         let e : W + k ≡ x = omega arith in
         let my = subst (λ (y : ℕ). List·Memᴰ y (upTo H)) (zero-add y) (mem-row (λ y. y) 0 H y hy) in
         let mx = subst (λ (c : ℕ). List·Memᴰ c (tabulate (λ c. c) W (stride W * 8 - W))) e (mem-row (λ c. c) W (stride W * 8 - W) k hk) in
-        let t = all-out (λ c. not (pixel W s c y)) (all-out (λ y. all (λ c. not (pixel W s c y)) (tabulate (λ c. c) W (stride W * 8 - W))) clean my) mx in
+        let t = all-out (λ c. not (pixel W s c y)) (all-out (λ y. everyOf (λ c. not (pixel W s c y)) (tabulate (λ c. c) W (stride W * 8 - W))) clean my) mx in
         ap (λ (a : Bool). a && (ltb y H && pixel W s x y)) (le-ltb x W w) ∙ not-false (pixel W s x y) t
 
 -- a pixel of an image is one of a row of its bytes
@@ -117,7 +117,7 @@ joined-blocks t (suc k) f =
     ∙ sym (joined-add t (k * 5) 5 f) ∙ ap (λ (n : ℕ). joined t n f) (sym (suc-mul k 5))
 
 joined-offsets : (t : Bool) (e n : ℕ) (p : Point → Bool)
-    → joined t n (λ i. cond (bit e i) (p (offset 2 i)) (not t)) ≡ cond t (any p (offsetsBelow 2 e n)) (all p (offsetsBelow 2 e n))
+    → joined t n (λ i. cond (bit e i) (p (offset 2 i)) (not t)) ≡ cond t (someOf p (offsetsBelow 2 e n)) (everyOf p (offsetsBelow 2 e n))
 unfolding joined offsetsBelow
 joined-offsets true e zero p = refl
 joined-offsets false e zero p = refl
@@ -127,11 +127,11 @@ joined-offsets t e (suc n) p = ap (λ (b : Bool). join t b (cond (bit e n) (p (o
     l = offsetsBelow 2 e n
 
     go : (t b : Bool)
-        → join t (cond t (any p l) (all p l)) (cond b (p (offset 2 n)) (not t)) ≡ cond t (any p (cond b (offset 2 n ∷ l) l)) (all p (cond b (offset 2 n ∷ l) l))
-    go true true = join-comm true (any p l) (p (offset 2 n))
-    go true false = join-unit true (any p l)
-    go false true = join-comm false (all p l) (p (offset 2 n))
-    go false false = join-unit false (all p l)
+        → join t (cond t (someOf p l) (everyOf p l)) (cond b (p (offset 2 n)) (not t)) ≡ cond t (someOf p (cond b (offset 2 n ∷ l) l)) (everyOf p (cond b (offset 2 n ∷ l) l))
+    go true true = join-comm true (someOf p l) (p (offset 2 n))
+    go true false = join-unit true (someOf p l)
+    go false true = join-comm false (everyOf p l) (p (offset 2 n))
+    go false false = join-unit false (everyOf p l)
 
 -- a step by an offset, back in a dilation
 stepped : Bool → Point → Point → Point
@@ -195,7 +195,7 @@ neighbours-set t e S x y =
     asks i = cond (bit e i) (S (stepped t (at (pos x) (pos y)) (offset 2 i))) (not t)
 
     go : (t : Bool)
-        → cond t (any (λ b. S (stepped t (at (pos x) (pos y)) b)) (offsetsBelow 2 e 25)) (all (λ b. S (stepped t (at (pos x) (pos y)) b)) (offsetsBelow 2 e 25))
+        → cond t (someOf (λ b. S (stepped t (at (pos x) (pos y)) b)) (offsetsBelow 2 e 25)) (everyOf (λ b. S (stepped t (at (pos x) (pos y)) b)) (offsetsBelow 2 e 25))
         ≡ morphed t (offsets e) S (at (pos x) (pos y))
     go true = refl
     go false = refl

@@ -15,7 +15,7 @@ use lib.ListN.{drop, getD, length, length-drop, take}
 use lib.Seq.{getD-drop, getD-take, length-take-le, take-suc}
 use Rattle.morphology.specs.Image.{bitOf, fromBits, imageSet, isClean, stride}
 use Rattle.morphology.specs.Labels.{labelAt}
-use Rattle.morphology.specs.Lists.{any, greatest}
+use Rattle.morphology.specs.Lists.{greatest, someOf}
 use Rattle.morphology.specs.Point.{at}
 use Rattle.morphology.proofs.CountLaws.{digit}
 use Rattle.morphology.proofs.ImageLaws.{bit-fromBits, bits-of, fromBits-lt}
@@ -98,11 +98,11 @@ same-ink : (c : Bool) → not (eqb (cond c 1 0) 0) ≡ c
 same-ink true = refl
 same-ink false = refl
 
-pub seen-more : (seen v : ℕ) (l : List ℕ) (i : ℕ) → i < length l → not (eqb seen 0) ≡ any (λ b. eqb b v) (take i l)
-    → not (eqb (bitOr seen (cond (eqb (getD l i 0) v) 1 0)) 0) ≡ any (λ b. eqb b v) (take (i + 1) l)
+pub seen-more : (seen v : ℕ) (l : List ℕ) (i : ℕ) → i < length l → not (eqb seen 0) ≡ someOf (λ b. eqb b v) (take i l)
+    → not (eqb (bitOr seen (cond (eqb (getD l i 0) v) 1 0)) 0) ≡ someOf (λ b. eqb b v) (take (i + 1) l)
 seen-more seen v l i h e =
     or-ink seen (cond (eqb (getD l i 0) v) 1 0) ∙ ap₂ (λ (c d : Bool). c || d) e (same-ink (eqb (getD l i 0) v))
-    ∙ sym (ap (λ (n : ℕ). any (λ b. eqb b v) (take n l)) (add-one i) ∙ any-suc (λ b. eqb b v) l i h)
+    ∙ sym (ap (λ (n : ℕ). someOf (λ b. eqb b v) (take n l)) (add-one i) ∙ any-suc (λ b. eqb b v) l i h)
 
 -- ---- bits
 
@@ -172,17 +172,17 @@ byte-whole row v x k b h q e =
     (λ j l. ap (isLabel (take k (drop x row)) v) (let z : 0 + j ≡ j = omega arith in z) ∙ part-label row v x k j (omega arith) (omega arith))
 
 -- none of them
-label-none : (row : List ℕ) (v x : ℕ) → any (λ b. eqb b v) row ≡ false → isLabel row v x ≡ false
+label-none : (row : List ℕ) (v x : ℕ) → someOf (λ b. eqb b v) row ≡ false → isLabel row v x ≡ false
 label-none row v x e = by (decLt x (length row))
   where
-    no-label : (l : List ℕ) (x : ℕ) → x < length l → any (λ b. eqb b v) l ≡ false → eqb (getD l x 0) v ≡ false
+    no-label : (l : List ℕ) (x : ℕ) → x < length l → someOf (λ b. eqb b v) l ≡ false → eqb (getD l x 0) v ≡ false
     no-label [] x h q = absurd (omega arith)
-    no-label (b ∷ l) zero h q = left (eqb b v) (any (λ b. eqb b v) l) q
+    no-label (b ∷ l) zero h q = left (eqb b v) (someOf (λ b. eqb b v) l) q
       where
         left : (c d : Bool) → (c || d) ≡ false → c ≡ false
         left true d q = q
         left false d q = refl
-    no-label (b ∷ l) (suc x) h q = no-label l x (omega arith) (right (eqb b v) (any (λ b. eqb b v) l) q)
+    no-label (b ∷ l) (suc x) h q = no-label l x (omega arith) (right (eqb b v) (someOf (λ b. eqb b v) l) q)
       where
         right : (c d : Bool) → (c || d) ≡ false → d ≡ false
         right true d q = absurd (subst T q tt)
@@ -192,7 +192,7 @@ label-none row v x e = by (decLt x (length row))
     by (yes l) = in-label row v x l ∙ no-label row x l e
     by (no l) = past-label row v x (omega arith)
 
-pub byte-none : (row : List ℕ) (v x k : ℕ) → x + 8 ≤ length row → k ≡ 8 → any (λ b. eqb b v) (take k (drop x row)) ≡ false → 0 ≡ fromBits (isLabel row v) x 8
+pub byte-none : (row : List ℕ) (v x k : ℕ) → x + 8 ≤ length row → k ≡ 8 → someOf (λ b. eqb b v) (take k (drop x row)) ≡ false → 0 ≡ fromBits (isLabel row v) x 8
 unfolding fromBits
 byte-none row v x k h q e =
     let n : ℕ = length (take k (drop x row)) in
@@ -232,7 +232,7 @@ labels-joined row v old new n h m =
     (ap (λ (e : ℕ). eqb (fromBits (isLabel row v) (8 * i) 8 / 2 ^ e % 2) 1) w ∙ bit-fromBits (isLabel row v) (8 * i) 8 k hk))
 
 -- a row without such a label
-labels-none : (row : List ℕ) (v : ℕ) (old : List ℕ) → any (λ b. eqb b v) row ≡ false → Pixelwise old old (λ x b. b || isLabel row v x)
+labels-none : (row : List ℕ) (v : ℕ) (old : List ℕ) → someOf (λ b. eqb b v) row ≡ false → Pixelwise old old (λ x b. b || isLabel row v x)
 labels-none row v old e = record { size = refl; pixels = λ x l. or-none (rowBit old x) (isLabel row v x) (label-none row v x e) }
   where
     or-none : (b c : Bool) → c ≡ false → b ≡ (b || c)
@@ -244,7 +244,7 @@ pub labels-below : (row : List ℕ) (v : ℕ) (old : List ℕ) → greatestBelow
 unfolding greatest greatestBelow
 labels-below row v old h = labels-none row v old (none row h)
   where
-    none : (l : List ℕ) → greatestBelow (v + 1) l < v → any (λ b. eqb b v) l ≡ false
+    none : (l : List ℕ) → greatestBelow (v + 1) l < v → someOf (λ b. eqb b v) l ≡ false
     none [] h = refl
     none (b ∷ l) h = ap₂ (λ (c d : Bool). c || d) (ne-eqb b v (λ e. omega (arith, under-lt b (v + 1) (omega arith)))) (none l (omega arith))
 

@@ -5,7 +5,7 @@ ghost use Prim.Native.Nat.{_+_, _*_, _-_, _<_, _≤_, max};
 ghost use lib.Dec.{eqb, ltb, T};
 ghost use lib.ListN.{length};
 ghost use Rattle.morphology.specs.Image.{fromBits, isClean, pack};
-ghost use Rattle.morphology.specs.Lists.{any, greatest as greatestOf};
+ghost use Rattle.morphology.specs.Lists.{greatest as greatestOf, someOf};
 ghost use Rattle.planes.specs.Frames.{Frame};
 ghost use Rattle.raster.specs.Rows.{Pixelwise, overwrite};
 ghost use Rattle.points.specs.Points.{greatestBelow, isLabel, Tops, withPoints};
@@ -78,7 +78,7 @@ fn same(a: u8, b: u8) -> u8
 
 // Whether a label of the row is v.
 pub fn has_label(row: &[u8], v: u8) -> bool
-    ensures { λ r. ⌜ r ≡ any (λ b. eqb b v) (now (row .entry)) ⌝ }
+    ensures { λ r. ⌜ r ≡ someOf (λ b. eqb b v) (now (row .entry)) ⌝ }
 {
     let mut seen: u8 = 0;
     let mut i: usize = 0;

@@ -16,7 +16,7 @@ use lib.Pow.{mod-pow-add, pow-pos}
 use lib.Seq.{ext-getD, getD-append-add, getD-drop, getD-take, length-take-le, take-add}
 use Rattle.morphology.specs.Element.{bit}
 use Rattle.morphology.specs.Image.{bitOf, isClean, onesOf, pixel, stride}
-use Rattle.morphology.specs.Lists.{all, any, tabulate, upTo}
+use Rattle.morphology.specs.Lists.{everyOf, someOf, tabulate, upTo}
 use Rattle.morphology.proofs.CountLaws.{all-suc}
 use Rattle.morphology.proofs.ImageLaws.{mem-row}
 use Rattle.morphology.proofs.TestLaws.{T-ext, all-out}
@@ -126,32 +126,32 @@ or-assoc : (a b c : Bool) → (a || (b || c)) ≡ ((a || b) || c)
 or-assoc true b c = refl
 or-assoc false b c = refl
 
-pub any-suc : (p : ℕ → Bool) (l : List ℕ) (i : ℕ) → i < length l → any p (take (suc i) l) ≡ (any p (take i l) || p (getD l i 0))
+pub any-suc : (p : ℕ → Bool) (l : List ℕ) (i : ℕ) → i < length l → someOf p (take (suc i) l) ≡ (someOf p (take i l) || p (getD l i 0))
 any-suc p [] i h = absurd (not-suc-le-zero h)
 any-suc p (b ∷ l) zero h = or-false (p b)
   where
     or-false : (c : Bool) → (c || false) ≡ c
     or-false true = refl
     or-false false = refl
-any-suc p (b ∷ l) (suc i) h = ap (λ (c : Bool). p b || c) (any-suc p l i (le-of-suc-le-suc h)) ∙ or-assoc (p b) (any p (take i l)) (p (getD l i 0))
+any-suc p (b ∷ l) (suc i) h = ap (λ (c : Bool). p b || c) (any-suc p l i (le-of-suc-le-suc h)) ∙ or-assoc (p b) (someOf p (take i l)) (p (getD l i 0))
 
 -- an or is 0 where both are
 pub or-ink : (a b : ℕ) → not (eqb (bitOr a b) 0) ≡ (not (eqb a 0) || not (eqb b 0))
 or-ink zero b = ap (λ (n : ℕ). not (eqb n 0)) (or-zero-l b)
 or-ink (suc a) b = ap not (ne-eqb (bitOr (suc a) b) 0 (λ e. omega (arith, or-add-and (suc a) b, and-le-r (suc a) b, e))) ∙ sym (ap (λ (c : Bool). not c || not (eqb b 0)) (ne-eqb (suc a) 0 (λ e. omega arith)))
 
-pub ink-more : (seen : ℕ) (l : List ℕ) (i : ℕ) → i < length l → not (eqb seen 0) ≡ any (λ b. not (eqb b 0)) (take i l)
-    → not (eqb (bitOr seen (getD l i 0)) 0) ≡ any (λ b. not (eqb b 0)) (take (i + 1) l)
+pub ink-more : (seen : ℕ) (l : List ℕ) (i : ℕ) → i < length l → not (eqb seen 0) ≡ someOf (λ b. not (eqb b 0)) (take i l)
+    → not (eqb (bitOr seen (getD l i 0)) 0) ≡ someOf (λ b. not (eqb b 0)) (take (i + 1) l)
 ink-more seen l i h e =
     or-ink seen (getD l i 0) ∙ ap (λ (c : Bool). c || not (eqb (getD l i 0) 0)) e
-    ∙ sym (ap (λ (n : ℕ). any (λ b. not (eqb b 0)) (take n l)) (add-one i) ∙ any-suc (λ b. not (eqb b 0)) l i h)
+    ∙ sym (ap (λ (n : ℕ). someOf (λ b. not (eqb b 0)) (take n l)) (add-one i) ∙ any-suc (λ b. not (eqb b 0)) l i h)
 
 -- ---- tests of all numbers below n
 
-pub all-more : (p : ℕ → Bool) (n : ℕ) → all p (upTo (n + 1)) ≡ (all p (upTo n) && p n)
-all-more p n = ap (λ (k : ℕ). all p (upTo k)) (add-one n) ∙ all-suc p (λ k. k) 0 n ∙ ap (λ (k : ℕ). all p (upTo n) && p k) (zero-add n)
+pub all-more : (p : ℕ → Bool) (n : ℕ) → everyOf p (upTo (n + 1)) ≡ (everyOf p (upTo n) && p n)
+all-more p n = ap (λ (k : ℕ). everyOf p (upTo k)) (add-one n) ∙ all-suc p (λ k. k) 0 n ∙ ap (λ (k : ℕ). everyOf p (upTo n) && p k) (zero-add n)
 
-pub all-not : (p : ℕ → Bool) (n y : ℕ) → y < n → p y ≡ false → all p (upTo n) ≡ false
+pub all-not : (p : ℕ → Bool) (n y : ℕ) → y < n → p y ≡ false → everyOf p (upTo n) ≡ false
 all-not p n y h e =
     T-ext (λ t. subst T e (all-out p t (subst (λ (k : ℕ). List·Memᴰ k (upTo n)) (zero-add y) (mem-row (λ k. k) 0 n y h)))) (λ t. absurd t)
 
@@ -171,7 +171,7 @@ or-none : (a b : ℕ) → eqb (bitOr a b) 0 ≡ (eqb a 0 && eqb b 0)
 or-none zero b = ap (λ (n : ℕ). eqb n 0) (or-zero-l b)
 or-none (suc a) b = ne-eqb (bitOr (suc a) b) 0 (λ e. omega (arith, or-add-and (suc a) b, and-le-r (suc a) b, e)) ∙ sym (ap (λ (c : Bool). c && eqb b 0) (ne-eqb (suc a) 0 (λ e. omega arith)))
 
-pub same-more : (p : ℕ → Bool) (d a b i : ℕ) → eqb d 0 ≡ all p (upTo i) → p i ≡ eqb a b → eqb (bitOr d (bitXor a b)) 0 ≡ all p (upTo (i + 1))
+pub same-more : (p : ℕ → Bool) (d a b i : ℕ) → eqb d 0 ≡ everyOf p (upTo i) → p i ≡ eqb a b → eqb (bitOr d (bitXor a b)) 0 ≡ everyOf p (upTo (i + 1))
 same-more p d a b i e q = or-none d (bitXor a b) ∙ ap₂ _&&_ e (xor-same a b ∙ sym q) ∙ sym (all-more p i)
 
 -- ---- padding
@@ -186,7 +186,7 @@ top-digit (suc (suc d)) lo P h hp = absurd (omega arith)
 
 -- k pixels from x on, the lowest k bits of v, are background
 padding-byte : (p : ℕ → Bool) (v x k : ℕ) → ((i : ℕ) → i < k → p (x + i) ≡ bit v (k - suc i))
-    → all (λ c. not (p c)) (tabulate (λ c. c) x k) ≡ eqb (v % 2 ^ k) 0
+    → everyOf (λ c. not (p c)) (tabulate (λ c. c) x k) ≡ eqb (v % 2 ^ k) 0
 unfolding tabulate
 padding-byte p v x zero f = sym (ap (λ (n : ℕ). eqb n 0) (mod-one v))
 padding-byte p v x (suc k) f =
@@ -201,13 +201,13 @@ padding-byte p v x (suc k) f =
 abbrev pub lastClean : List ℕ → ℕ → ℕ → ℕ → Bool
 lastClean s r m y = eqb (getD s (y * r + (r - 1)) 0 % m) 0
 
-pub clean-last : (W H r : ℕ) (s : List ℕ) → r ≡ stride W → 1 ≤ W → isClean W H s ≡ all (lastClean s r (2 ^ (r * 8 - W))) (upTo H)
+pub clean-last : (W H r : ℕ) (s : List ℕ) → r ≡ stride W → 1 ≤ W → isClean W H s ≡ everyOf (lastClean s r (2 ^ (r * 8 - W))) (upTo H)
 unfolding isClean pixel bitOf stride
-clean-last W H r s q h = (λ i. all (λ y. line y i) (upTo H))
+clean-last W H r s q h = (λ i. everyOf (λ y. line y i) (upTo H))
   where
-    line : (y : ℕ) → all (λ x. not (pixel W s x y)) (tabulate (λ x. x) W (stride W * 8 - W)) ≡ lastClean s r (2 ^ (r * 8 - W)) y
+    line : (y : ℕ) → everyOf (λ x. not (pixel W s x y)) (tabulate (λ x. x) W (stride W * 8 - W)) ≡ lastClean s r (2 ^ (r * 8 - W)) y
     line y =
-        ap (λ (n : ℕ). all (λ x. not (pixel W s x y)) (tabulate (λ x. x) W (n * 8 - W))) (sym q)
+        ap (λ (n : ℕ). everyOf (λ x. not (pixel W s x y)) (tabulate (λ x. x) W (n * 8 - W))) (sym q)
         ∙ padding-byte (λ x. pixel W s x y) (getD s (y * r + (r - 1)) 0) W (r * 8 - W)
         (λ i l.
         let a : (W + i) / 8 ≡ r - 1 = omega arith in
@@ -226,5 +226,5 @@ unfolding stride
 padding-lt W r q h l = (omega arith, omega arith, omega arith, omega arith)
 
 pub clean-with : (W H r : ℕ) (s : List ℕ) → r ≡ stride W → 1 ≤ W → W ≤ 1024
-    → isClean W H s ≡ all (lastClean s r ((1 * 2 ^ (r * 8 - W)) % 2 ^ 8)) (upTo H)
-clean-with W H r s q h l = clean-last W H r s q h ∙ ap (λ (m : ℕ). all (lastClean s r m) (upTo H)) (sym (one-shl (r * 8 - W) (padding-lt W r q h l .0)))
+    → isClean W H s ≡ everyOf (lastClean s r ((1 * 2 ^ (r * 8 - W)) % 2 ^ 8)) (upTo H)
+clean-with W H r s q h l = clean-last W H r s q h ∙ ap (λ (m : ℕ). everyOf (lastClean s r m) (upTo H)) (sym (one-shl (r * 8 - W) (padding-lt W r q h l .0)))

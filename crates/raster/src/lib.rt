@@ -6,7 +6,7 @@ ghost use Prim.Native.Nat.{ℕ, _+_, _*_, _<_, _≤_, _^_};
 ghost use lib.Dec.{leb, ltb, eqb};
 ghost use lib.ListN.{length, getD, replicate, take, drop};
 ghost use Rattle.morphology.specs.Image.{stride, isClean, onesOf, pixel as pixelOf};
-ghost use Rattle.morphology.specs.Lists.{any, all, upTo};
+ghost use Rattle.morphology.specs.Lists.{everyOf, someOf, upTo};
 ghost use Rattle.raster.specs.Rows.{rowBit, readBit, exchangeByte, joinByte, Pixelwise, RowIs, RowJoined, Summed, sumOf};
 
 // Two bytes joined pixel by pixel: by or in a dilation, by and in an erosion.
@@ -229,7 +229,7 @@ pub fn count_ones(s: &[u8]) -> u32
 
 // Whether a byte of s is not 0.
 pub fn has_ink(s: &[u8]) -> bool
-    ensures { λ r. ⌜ r ≡ any (λ b. not (eqb b 0)) (now (s .entry)) ⌝ }
+    ensures { λ r. ⌜ r ≡ someOf (λ b. not (eqb b 0)) (now (s .entry)) ⌝ }
 {
     let mut seen: u8 = 0;
     let mut i: usize = 0;
@@ -243,7 +243,7 @@ pub fn has_ink(s: &[u8]) -> bool
 // Whether two rows of r bytes of a plane, at a and at b, are the same.
 pub fn same_rows(plane: &[u8], a: usize, b: usize, r: usize) -> bool
     requires { ⌜ (a + r ≤ length (now plane)) × (b + r ≤ length (now plane)) ⌝ }
-    ensures { λ s. ⌜ s ≡ all (λ i. eqb (getD (now (plane .entry)) (a + i) 0) (getD (now (plane .entry)) (b + i) 0)) (upTo r) ⌝ }
+    ensures { λ s. ⌜ s ≡ everyOf (λ i. eqb (getD (now (plane .entry)) (a + i) 0) (getD (now (plane .entry)) (b + i) 0)) (upTo r) ⌝ }
 {
     let mut differ: u8 = 0;
     let mut i: usize = 0;

@@ -12,7 +12,7 @@ use lib.ListN.{List·getD-append, drop, getD, length, length-append, length-drop
 use lib.Seq.{drop-at, drop-drop, getD-take, length-take-le, take-at}
 use Rattle.morphology.specs.Element.{isElement, offsets}
 use Rattle.morphology.specs.Image.{clip, imageSet, isClean, onFrame, onesOf, pack, planeBytes, stride}
-use Rattle.morphology.specs.Lists.{any}
+use Rattle.morphology.specs.Lists.{someOf}
 use Rattle.morphology.specs.Morphology.{dilate, erode, opening, times}
 use Rattle.morphology.specs.Operations.{cleared}
 use Rattle.morphology.specs.Point.{Point}
@@ -99,17 +99,17 @@ first-as e a = record { size = a .size; first = a .first ∙ e; rest = a .rest }
 
 -- ---- bytes of 0
 
-pub zeros-out : (l : List ℕ) → any (λ b. not (eqb b 0)) l ≡ false → l ≡ replicate (length l) 0
+pub zeros-out : (l : List ℕ) → someOf (λ b. not (eqb b 0)) l ≡ false → l ≡ replicate (length l) 0
 zeros-out [] e = refl
 zeros-out (b ∷ l) e = by (zeros-out l) (eqb b 0) refl
   where
-    by : (any (λ b. not (eqb b 0)) l ≡ false → l ≡ replicate (length l) 0) → (t : Bool) → eqb b 0 ≡ t → b ∷ l ≡ 0 ∷ replicate (length l) 0
-    by f true q = ap₂ (λ (x : ℕ) (y : List ℕ). x ∷ y) (eqb-true b 0 q) (f (sym (ap (λ (t : Bool). not t || any (λ b. not (eqb b 0)) l) q) ∙ e))
-    by f false q = absurd (subst T (sym (ap (λ (t : Bool). not t || any (λ b. not (eqb b 0)) l) q) ∙ e) tt)
+    by : (someOf (λ b. not (eqb b 0)) l ≡ false → l ≡ replicate (length l) 0) → (t : Bool) → eqb b 0 ≡ t → b ∷ l ≡ 0 ∷ replicate (length l) 0
+    by f true q = ap₂ (λ (x : ℕ) (y : List ℕ). x ∷ y) (eqb-true b 0 q) (f (sym (ap (λ (t : Bool). not t || someOf (λ b. not (eqb b 0)) l) q) ∙ e))
+    by f false q = absurd (subst T (sym (ap (λ (t : Bool). not t || someOf (λ b. not (eqb b 0)) l) q) ∙ e) tt)
 
 -- a first plane without a 1
 pub first-zeros : {W H p : ℕ} {S : Point → Bool} {w u : List ℕ} → p ≡ planeBytes W H → p ≤ length u → First W H p S w u
-    → any (λ b. not (eqb b 0)) (take p u) ≡ false
+    → someOf (λ b. not (eqb b 0)) (take p u) ≡ false
     → take p u ≡ replicate (planeBytes W H) 0
 first-zeros {p = p} {u = u} q h a e = zeros-out (take p u) e ∙ ap (λ (n : ℕ). replicate n 0) (length-take-le p u h ∙ q)
 
@@ -134,7 +134,7 @@ module _ (W H p e : ℕ) (el : T (isElement e)) (q : p ≡ planeBytes W H) (X : 
       (ap (λ (Z : Point → Bool). pack W H (erode (offsets e) Z)) (first-image q (eroded-first-on i) a ∙ sym (image-pack W H Y (eroded-first-on i)))
       ∙ eroded-turn W H (offsets e) (element e el) X on i (pack W H Y) refl) b)
 
-  pub eroded-rest : (i n : ℕ) → i ≤ n → p ≤ length u → Eroded i → any (λ b. not (eqb b 0)) (take p u) ≡ false → Eroded n
+  pub eroded-rest : (i n : ℕ) → i ≤ n → p ≤ length u → Eroded i → someOf (λ b. not (eqb b 0)) (take p u) ≡ false → Eroded n
   eroded-rest i n h l a z =
       first-as (sym (a .first) ∙ eroded-stop W H (offsets e) (element e el) X on i n (take p u) h (a .first) (first-zeros q l a z)) a
 
@@ -162,7 +162,7 @@ dilated-empty W H B zero X f z t = f z t
 dilated-empty W H B (suc n) X f z t = dilate-empty B (dilated W H B n X) (dilated-empty W H B n X f) z (and-r (onFrame W H z) (dilate B (dilated W H B n X) z) t)
 
 pub dilated-rest : (W H p : ℕ) (B : List Point) (n : ℕ) (X : Point → Bool) (w u : List ℕ) → p ≡ planeBytes W H → OnFrame W H X → p ≤ length u
-    → First W H p X w u → any (λ b. not (eqb b 0)) (take p u) ≡ false → First W H p (dilated W H B n X) w u
+    → First W H p X w u → someOf (λ b. not (eqb b 0)) (take p u) ≡ false → First W H p (dilated W H B n X) w u
 dilated-rest W H p B n X w u q on l a z =
     let f = empty-pack W H X on (sym (a .first) ∙ first-zeros q l a z) in
     first-as (pack-empty W H X f ∙ sym (pack-empty W H (dilated W H B n X) (dilated-empty W H B n X f))) a

@@ -8,7 +8,7 @@ use Rattle.morphology.specs.Answers.{foreground, outcome, refused}
 use Rattle.morphology.specs.Element.{bit, isMask, maskOffsets, offset}
 use Rattle.morphology.specs.Image.{imageSet, onesOf, pack}
 use Rattle.morphology.specs.Labels.{area}
-use Rattle.morphology.specs.Lists.{all, upTo}
+use Rattle.morphology.specs.Lists.{everyOf, upTo}
 use Rattle.morphology.specs.Operations.{hitOrMiss, hitRows}
 use Rattle.morphology.specs.Point.{Point, _⊞_, origin}
 use Rattle.morphology.specs.Refusals.{firstRefusal}
@@ -26,14 +26,14 @@ use Rattle.thinning.proofs.CallLaws.{call-refused}
 pub mask-centre : (m : ℕ × ℕ) → T (isMask m) → List·Memᴰ origin (maskOffsets (m .0))
 unfolding isMask offset origin
 mask-centre m t =
-    let overlap = all (λ i. not (bit (m .0) i && bit (m .1) i)) (upTo 9) in
+    let overlap = everyOf (λ i. not (bit (m .0) i && bit (m .1) i)) (upTo 9) in
     in-below 1 (m .0) 9 4 (lit< tt) (and-l (bit (m .0) 4) overlap (and-r (ltb (m .0) (2 ^ 9) && ltb (m .1) (2 ^ 9)) (bit (m .0) 4 && overlap) t))
 
 pub hit-part : (m : ℕ × ℕ) → T (isMask m) → (X : Point → Bool) → hit m X ⊆ X
 unfolding hit
 hit-part m t X z u =
     subst (λ (y : Point). T (X y)) (unit z)
-    (all-out (λ b. X (z ⊞ b)) (and-l (all (λ b. X (z ⊞ b)) (maskOffsets (m .0))) (all (λ b. not (X (z ⊞ b))) (maskOffsets (m .1))) u) (mask-centre m t))
+    (all-out (λ b. X (z ⊞ b)) (and-l (everyOf (λ b. X (z ⊞ b)) (maskOffsets (m .0))) (everyOf (λ b. not (X (z ⊞ b))) (maskOffsets (m .1))) u) (mask-centre m t))
 
 pub hit-on : (W H : ℕ) (m : ℕ × ℕ) → T (isMask m) → (X : Point → Bool) → OnFrame W H X → OnFrame W H (hit m X)
 hit-on W H m t X on = on-sub W H (hit m X) X (hit-part m t X) on

@@ -9,7 +9,7 @@ use lib.IntN.{pos}
 use lib.ListN.{getD, length}
 use Rattle.morphology.specs.Element.{bit, isMask, maskOffsets, offset, offsets, offsetsBelow}
 use Rattle.morphology.specs.Image.{imageSet, isClean, pack, stride}
-use Rattle.morphology.specs.Lists.{all}
+use Rattle.morphology.specs.Lists.{everyOf}
 use Rattle.morphology.specs.Morphology.{erode}
 use Rattle.morphology.specs.Point.{Point, _⊞_, at}
 use Rattle.morphology.specs.Thinning.{hit}
@@ -84,9 +84,9 @@ unfolding hit erode
 hits-set W H r fg bg image q m clean x y =
     ap₂ (λ (a b : Bool). a && b)
     ((λ i. neighbours false (widened fg) (λ X Y. near-image W H r image q clean X Y i) x y) ∙ neighbours-set false (widened fg) S x y
-    ∙ ap (λ (B : List Point). all (λ b. S (z ⊞ b)) B) (widened-offsets fg (m .fg-small)))
+    ∙ ap (λ (B : List Point). everyOf (λ b. S (z ⊞ b)) B) (widened-offsets fg (m .fg-small)))
     ((λ i. neighbours false (widened bg) (λ X Y. not (near-image W H r image q clean X Y i)) x y) ∙ neighbours-set false (widened bg) (λ p. not (S p)) x y
-    ∙ ap (λ (B : List Point). all (λ b. not (S (z ⊞ b))) B) (widened-offsets bg (m .bg-small)))
+    ∙ ap (λ (B : List Point). everyOf (λ b. not (S (z ⊞ b))) B) (widened-offsets bg (m .bg-small)))
   where
     S : Point → Bool
     S = imageSet W H image

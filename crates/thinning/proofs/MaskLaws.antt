@@ -7,7 +7,7 @@ use borrow.Author.Tests.{eq-eqb, le-ltb, lt-ltb, ne-eqb}
 use lib.Bits.{and-lt, bitAnd}
 use lib.Dec.{T, eqb, eqb→eq, ltb, ltb→lt}
 use Rattle.morphology.specs.Element.{bit, isMask}
-use Rattle.morphology.specs.Lists.{all, tabulate, upTo}
+use Rattle.morphology.specs.Lists.{everyOf, tabulate, upTo}
 use Rattle.morphology.specs.Refusals.{row6}
 use Rattle.morphology.proofs.BitLaws.{bit-and}
 use Rattle.morphology.proofs.TestLaws.{and-l, and-r, upto-out}
@@ -19,7 +19,7 @@ pub record Accepted (fg bg : ℕ) : Type 0 where
 
 -- no bit in both
 abbrev apart : ℕ → ℕ → Bool
-apart fg bg = all (λ i. not (bit fg i && bit bg i)) (upTo 9)
+apart fg bg = everyOf (λ i. not (bit fg i && bit bg i)) (upTo 9)
 
 pub mask-of : (fg bg : ℕ) → T (isMask (fg, bg)) → Accepted fg bg
 unfolding isMask
@@ -47,9 +47,9 @@ pub mask-no-centre : (fg bg : ℕ) → fg < 512 → bg < 512 → fg / 16 % 2 ≡
 mask-no-centre fg bg hf hb o = sym (ap (λ (b : Bool). not (b && apart fg bg)) (ne-eqb (fg / 2 ^ 4 % 2) 1 (λ q. omega arith))) ∙ mask-small fg bg hf hb
 
 -- a number of nine bits without a bit is 0
-no-bit : (n : ℕ) → n < 512 → eqb n 0 ≡ all (λ i. not (bit n i)) (upTo 9)
+no-bit : (n : ℕ) → n < 512 → eqb n 0 ≡ everyOf (λ i. not (bit n i)) (upTo 9)
 unfolding tabulate
-no-bit n h = same (eqb n 0) (all (λ i. not (bit n i)) (upTo 9)) (upto-out (λ n. Bool·beq (eqb n 0) (all (λ i. not (bit n i)) (upTo 9))) 512 n h tt)
+no-bit n h = same (eqb n 0) (everyOf (λ i. not (bit n i)) (upTo 9)) (upto-out (λ n. Bool·beq (eqb n 0) (everyOf (λ i. not (bit n i)) (upTo 9))) 512 n h tt)
   where
     same : (a b : Bool) → T (Bool·beq a b) → a ≡ b
     same true true t = refl
@@ -60,7 +60,7 @@ no-bit n h = same (eqb n 0) (all (λ i. not (bit n i)) (upTo 9)) (upto-out (λ n
 pub mask-apart : (fg bg : ℕ) → fg < 512 → bg < 512 → (fg / 16 % 2 ≡ 0 → ⊥) → not (eqb (bitAnd fg bg) 0) ≡ row6 (fg, bg) .1
 unfolding tabulate
 mask-apart fg bg hf hb o =
-    ap not (no-bit (bitAnd fg bg) (and-lt 9 fg bg hf hb) ∙ (λ i. all (λ k. not (bit-and fg bg k i)) (upTo 9)))
+    ap not (no-bit (bitAnd fg bg) (and-lt 9 fg bg hf hb) ∙ (λ i. everyOf (λ k. not (bit-and fg bg k i)) (upTo 9)))
     ∙ sym (ap (λ (b : Bool). not (b && apart fg bg)) (eq-eqb (fg / 2 ^ 4 % 2) 1 (odd (fg / 16) o))) ∙ mask-small fg bg hf hb
   where
     odd : (q : ℕ) → (q % 2 ≡ 0 → ⊥) → q % 2 ≡ 1

@@ -14,7 +14,7 @@ use lib.Seq.{ext-getD, getD-drop, getD-take, length-take-le}
 use Rattle.morphology.specs.Element.{isElement, offsets}
 use Rattle.morphology.specs.Image.{imageSet, isClean, pack, planeBytes, stride}
 use Rattle.morphology.specs.Labels.{place}
-use Rattle.morphology.specs.Lists.{any}
+use Rattle.morphology.specs.Lists.{someOf}
 use Rattle.morphology.specs.Morphology.{erode, opening}
 use Rattle.morphology.specs.Point.{Point}
 use Rattle.morphology.proofs.BandLaws.{InRows, area-moved, erode-moved, moved, moved-on, open-moved, pack-moved, pack-outside, place-moved, place-outside, rows-in}
@@ -35,7 +35,7 @@ use Rattle.turns.specs.Turns.{Stepped, Turned}
 
 -- ---- rows with and without ink
 
-zeros-in : (l : List ℕ) → ((i : ℕ) → i < length l → getD l i 0 ≡ 0) → any (λ b. not (eqb b 0)) l ≡ false
+zeros-in : (l : List ℕ) → ((i : ℕ) → i < length l → getD l i 0 ≡ 0) → someOf (λ b. not (eqb b 0)) l ≡ false
 zeros-in [] f = refl
 zeros-in (b ∷ l) f =
     ap₂ (λ (t u : Bool). not t || u) (eq-eqb b 0 (f 0 (zero-lt-suc (length l)))) (zeros-in l (λ i h. f (suc i) (omega arith)))
@@ -48,12 +48,12 @@ module _ (r y k : ℕ) (s : List ℕ) (e : k ≡ r) (h : y * r + r ≤ length s)
   byte : (i : ℕ) → i < r → getD (take k (drop (y * r) s)) i 0 ≡ getD s (y * r + i) 0
   byte i l = getD-take k (drop (y * r) s) i 0 (omega arith) ∙ getD-drop (y * r) s i 0
 
-  pub row-blank : any (λ b. not (eqb b 0)) (take k (drop (y * r) s)) ≡ false → BlankRow r s y
+  pub row-blank : someOf (λ b. not (eqb b 0)) (take k (drop (y * r) s)) ≡ false → BlankRow r s y
   row-blank z i l =
       let t = take k (drop (y * r) s) in
       sym (byte i l) ∙ ap (λ (m : List ℕ). getD m i 0) (zeros-out t z) ∙ getD-replicate (length t) i 0 0 (omega (arith, cut))
 
-  pub row-ink : any (λ b. not (eqb b 0)) (take k (drop (y * r) s)) ≡ true → BlankRow r s y → ⊥
+  pub row-ink : someOf (λ b. not (eqb b 0)) (take k (drop (y * r) s)) ≡ true → BlankRow r s y → ⊥
   row-ink z f = subst T (sym z ∙ zeros-in (take k (drop (y * r) s)) (λ i l. let q : i < r = omega (arith, cut) in byte i q ∙ f i q)) tt
 
 -- one more blank row, at the end and at the start

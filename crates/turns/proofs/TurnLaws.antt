@@ -12,7 +12,7 @@ use lib.Seq.{ext-getD, getD-drop, getD-take, length-take-le}
 use Rattle.morphology.specs.Element.{isElement, offsets}
 use Rattle.morphology.specs.Image.{imageSet, isClean, pack, planeBytes}
 use Rattle.morphology.specs.Labels.{area, place, pointsOf, raster}
-use Rattle.morphology.specs.Lists.{count}
+use Rattle.morphology.specs.Lists.{countOf}
 use Rattle.morphology.specs.Morphology.{erode, opening, times}
 use Rattle.morphology.specs.Point.{Point}
 use Rattle.morphology.specs.Skeleton.{skeletonFunction, skeletonLabels, skeletonSubset}
@@ -137,7 +137,7 @@ stepped-as {W} {H} {B = B} {v} {w} {w′} {l} {l′} {found} e d = subst (λ (k 
 -- ---- turns one after the other
 
 pub points-none : (n : ℕ) → pointsOf (replicate n 0) ≡ 0
-unfolding count
+unfolding countOf
 points-none zero = refl
 points-none (suc n) = omega (arith, points-none n)
 

@@ -15,7 +15,7 @@ use lib.ListN.{drop, getD, length, length-drop, length-take, set, take}
 use lib.Seq.{getD-drop, getD-set-other, getD-set-same, getD-take, length-take-le}
 use Rattle.morphology.specs.Extent.{boxed, extent}
 use Rattle.morphology.specs.Labels.{labelAt, places}
-use Rattle.morphology.specs.Lists.{any, greatest, upTo}
+use Rattle.morphology.specs.Lists.{greatest, someOf, upTo}
 use Rattle.morphology.specs.Point.{Point, at, origin}
 use Rattle.morphology.specs.Refusals.{isWild, leaves}
 use Rattle.morphology.proofs.CountLaws.{any-suc, getD-greatest}
@@ -119,8 +119,8 @@ over-second a b h v = go (decLe v a)
     go (yes l) = sym (ap (λ (t : Bool). t || ltb b v) (le-ltb a v l))
     go (no l) = lt-ltb b v (omega arith) ∙ sym (ap (λ (t : Bool). t || ltb b v) (lt-ltb a v (omega arith)))
 
-pub any-more : (p : ℕ → Bool) (n : ℕ) → any p (upTo (n + 1)) ≡ (any p (upTo n) || p n)
-any-more p n = ap (λ (k : ℕ). any p (upTo k)) (add-one n) ∙ any-suc p (λ k. k) 0 n ∙ ap (λ (k : ℕ). any p (upTo n) || p k) (zero-add n)
+pub any-more : (p : ℕ → Bool) (n : ℕ) → someOf p (upTo (n + 1)) ≡ (someOf p (upTo n) || p n)
+any-more p n = ap (λ (k : ℕ). someOf p (upTo k)) (add-one n) ∙ any-suc p (λ k. k) 0 n ∙ ap (λ (k : ℕ). someOf p (upTo n) || p k) (zero-add n)
 
 -- ---- the frame
 
@@ -142,13 +142,13 @@ leaves-sides W H B ob k x y (suc n) =
 
 -- a label of row y leaves the frame
 abbrev pub rowWild : ℕ → ℕ → List Point → ℕ → List ℕ → ℕ → Bool
-rowWild W H B k m y = any (λ x. leaves W H B k (at (pos x) (pos y)) (getD m (y * W + x) 0)) (upTo W)
+rowWild W H B k m y = someOf (λ x. leaves W H B k (at (pos x) (pos y)) (getD m (y * W + x) 0)) (upTo W)
 
-wild-rows : (W H : ℕ) (B : List Point) (k : ℕ) (m : List ℕ) → isWild W H B k m ≡ any (rowWild W H B k m) (upTo H)
+wild-rows : (W H : ℕ) (B : List Point) (k : ℕ) (m : List ℕ) → isWild W H B k m ≡ someOf (rowWild W H B k m) (upTo H)
 unfolding isWild
 wild-rows W H B k m = T-ext to of
   where
-    to : T (any (λ p. leaves W H B k p (labelAt W H m p)) (places W H)) → T (any (rowWild W H B k m) (upTo H))
+    to : T (someOf (λ p. leaves W H B k p (labelAt W H m p)) (places W H)) → T (someOf (rowWild W H B k m) (upTo H))
     to t =
         let r = any-out (λ p. leaves W H B k p (labelAt W H m p)) (places W H) t in
         let q = of-places W H (r .1) in
@@ -158,7 +158,7 @@ wild-rows W H B k m = T-ext to of
         subst T (ap (λ (p : Point). leaves W H B k p (labelAt W H m p)) (q .4) ∙ ap (leaves W H B k (at (pos x) (pos y))) (labelAt-at W H m x y (q .2) (q .3))) (r .2) in
         any-in (rowWild W H B k m) (in-upTo H y (q .3)) (any-in (λ x. leaves W H B k (at (pos x) (pos y)) (getD m (y * W + x) 0)) (in-upTo W x (q .2)) z)
 
-    of : T (any (rowWild W H B k m) (upTo H)) → T (any (λ p. leaves W H B k p (labelAt W H m p)) (places W H))
+    of : T (someOf (rowWild W H B k m) (upTo H)) → T (someOf (λ p. leaves W H B k p (labelAt W H m p)) (places W H))
     of t =
         let r = any-out (rowWild W H B k m) (upTo H) t in
         let y = r .0 in
@@ -188,7 +188,7 @@ abbrev pub rowOf : ℕ → List ℕ → ℕ → List ℕ
 rowOf W m y = take (y * W + W - y * W) (drop (y * W) m)
 
 abbrev pub rowOver : List ℕ → List ℕ → ℕ → Bool
-rowOver row limits l = any (λ x. over (getD row x 0) (getD limits x 0) l) (upTo (length row))
+rowOver row limits l = someOf (λ x. over (getD row x 0) (getD limits x 0) l) (upTo (length row))
 
 -- a part of W labels has a limit for each
 pub part-limited : {W H : ℕ} {B : List Point} {k : ℕ} {m : List ℕ} {left right up down : ℕ} {limits : List ℕ} → Ready W H B k m left right up down limits → (a : ℕ)
@@ -219,29 +219,29 @@ module _ {W H : ℕ} {B : List Point} {k : ℕ} {m : List ℕ} {left right up do
 
     row-exact : rowOver (rowOf W m y) limits l ≡ rowWild W H B k m y
     row-exact =
-        ap (λ (i : ℕ). any (λ x. over (getD (rowOf W m y) x 0) (getD limits x 0) l) (upTo i)) row-length
+        ap (λ (i : ℕ). someOf (λ x. over (getD (rowOf W m y) x 0) (getD limits x 0) l) (upTo i)) row-length
         ∙ any-agree (λ x. over (getD (rowOf W m y) x 0) (getD limits x 0) l) (λ x. leaves W H B k (at (pos x) (pos y)) (getD m (y * W + x) 0)) (upTo W) (λ x i. label-exact x (of-upTo W i))
 
     -- a row that leaves the frame
     pub wild-stop : rowOver (rowOf W m y) limits l ≡ true → true ≡ isWild W H B k m
     wild-stop q =
-        sym (wild-rows W H B k m ∙ true-of (any (rowWild W H B k m) (upTo H)) (any-in (rowWild W H B k m) (in-upTo H y h) (subst T (sym q ∙ row-exact) tt)))
+        sym (wild-rows W H B k m ∙ true-of (someOf (rowWild W H B k m) (upTo H)) (any-in (rowWild W H B k m) (in-upTo H y h) (subst T (sym q ∙ row-exact) tt)))
       where
         true-of : (b : Bool) → T b → b ≡ true
         true-of true t = refl
         true-of false t = absurd t
 
     -- one that does not
-    pub wild-turn : rowOver (rowOf W m y) limits l ≡ false → any (rowWild W H B k m) (upTo y) ≡ false → any (rowWild W H B k m) (upTo (y + 1)) ≡ false
+    pub wild-turn : rowOver (rowOf W m y) limits l ≡ false → someOf (rowWild W H B k m) (upTo y) ≡ false → someOf (rowWild W H B k m) (upTo (y + 1)) ≡ false
     wild-turn q f = any-more (rowWild W H B k m) y ∙ ap₂ _||_ f (sym row-exact ∙ q)
 
-pub wild-last : (W H : ℕ) (B : List Point) (k : ℕ) (m : List ℕ) (y : ℕ) → y ≡ H → any (rowWild W H B k m) (upTo y) ≡ false → false ≡ isWild W H B k m
-wild-last W H B k m y e f = sym (wild-rows W H B k m ∙ ap (λ (n : ℕ). any (rowWild W H B k m) (upTo n)) (sym e) ∙ f)
+pub wild-last : (W H : ℕ) (B : List Point) (k : ℕ) (m : List ℕ) (y : ℕ) → y ≡ H → someOf (rowWild W H B k m) (upTo y) ≡ false → false ≡ isWild W H B k m
+wild-last W H B k m y e f = sym (wild-rows W H B k m ∙ ap (λ (n : ℕ). someOf (rowWild W H B k m) (upTo n)) (sym e) ∙ f)
 
 -- no label is above the cut: no point is kept
 pub none-kept : (W H : ℕ) (B : List Point) (k : ℕ) (m : List ℕ) → greatest m ≤ k → false ≡ isWild W H B k m
 unfolding leaves
-none-kept W H B k m h = sym (wild-rows W H B k m ∙ false-of (any (rowWild W H B k m) (upTo H)) (λ t.
+none-kept W H B k m h = sym (wild-rows W H B k m ∙ false-of (someOf (rowWild W H B k m) (upTo H)) (λ t.
     let r = any-out (rowWild W H B k m) (upTo H) t in
     let y = r .0 in
     let s = any-out (λ x. leaves W H B k (at (pos x) (pos y)) (getD m (y * W + x) 0)) (upTo W) (r .2) in

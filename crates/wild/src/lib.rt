@@ -4,7 +4,7 @@ ghost use Prim.Native.Nat.{ℕ, _*_, _<_, _≤_};
 ghost use lib.Dec.{leb, ltb, T};
 ghost use lib.ListN.{length, getD};
 ghost use Rattle.morphology.specs.Element.{isElement, offsets};
-ghost use Rattle.morphology.specs.Lists.{any, upTo};
+ghost use Rattle.morphology.specs.Lists.{someOf, upTo};
 ghost use Rattle.morphology.specs.Refusals.{isWild};
 ghost use Rattle.wild.specs.Wild.{roomAt, Room, Limit, Limits, over};
 
@@ -83,7 +83,7 @@ fn lesser(a: u8, b: u8) -> u8
 // Whether a label is above the limit of its column, or that of its row.
 fn row_is_wild(row: &[u8], limits: &[u8], limit: u8) -> bool
     requires { ⌜ length (now row) ≤ length (now limits) ⌝ }
-    ensures { λ r. ⌜ r ≡ any (λ x. over (getD (now (row .entry)) x 0) (getD (now (limits .entry)) x 0) limit) (upTo (length (now (row .entry)))) ⌝ }
+    ensures { λ r. ⌜ r ≡ someOf (λ x. over (getD (now (row .entry)) x 0) (getD (now (limits .entry)) x 0) limit) (upTo (length (now (row .entry)))) ⌝ }
 {
     let mut wild = false;
     let mut x: usize = 0;

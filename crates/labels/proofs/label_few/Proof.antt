@@ -6,7 +6,7 @@ use native.Mathlib.Omega.{arith}
 use denote.Ref.{now}
 use lib.ListN.{getD, length}
 use Rattle.morphology.specs.Image.{bitOf}
-use Rattle.morphology.specs.Lists.{count, upTo}
+use Rattle.morphology.specs.Lists.{countOf, upTo}
 use Rattle.raster.proofs.LoopLaws.{Mapped, mapped-more, mapped-none}
 use Rattle.labels.proofs.LabelLaws.{ones-first, row-labelled}
 use Rattle.labels.proofs.label_few.Statement.{statement}
@@ -67,7 +67,7 @@ returns c =
     let a = s .args in
     row-labelled (bitOf (a .byte)) (a .v) (now (a .labels)) (l .labels) (l .x) _ (omega (arith, l .inv .1 .size)) (l .inv .1)
     (ones-first (a .byte) (length (l .labels)) (omega (arith, s .fits .byte)) (omega (arith, l .inv .1 .size, s .pre))
-    ∙ ap (λ (k : ℕ). count (bitOf (a .byte)) (upTo k)) (omega (arith, l .inv .1 .size)))
+    ∙ ap (λ (k : ℕ). countOf (bitOf (a .byte)) (upTo k)) (omega (arith, l .inv .1 .size)))
 
 pub label-few-spec : {M : Type 1} → statement M
 label-few-spec =

@@ -8,13 +8,13 @@ use lib.Bits.{bitOr}
 use lib.Dec.{eqb}
 use lib.ListN.{length, take}
 use lib.Seq.{take-length}
-use Rattle.morphology.specs.Lists.{any}
+use Rattle.morphology.specs.Lists.{someOf}
 use Rattle.points.proofs.PointLaws.{seen-more}
 use Rattle.points.proofs.has_label.Statement.{statement}
 use Rattle.points.proofs.has_label.Tie as tie
 
 abbrev Inv-loop : tie.InvT-loop
-Inv-loop row v seen₀ i₀ seen i = (i ≤ length row) × (not (eqb seen 0) ≡ any (λ b. eqb b v) (take i row))
+Inv-loop row v seen₀ i₀ seen i = (i ≤ length row) × (not (eqb seen 0) ≡ someOf (λ b. eqb b v) (take i row))
 
 abbrev μ-loop : tie.MeasureT-loop
 μ-loop row v seen₀ i₀ seen i = length row - i
@@ -45,7 +45,7 @@ returns c =
     let l = c .before .loop in
     let a = c .before .before .before .args in
     let e : l .i ≡ length (now (a .row)) = omega arith in
-    l .inv .1 ∙ ap (λ (n : ℕ). any (λ b. eqb b (a .v)) (take n (now (a .row)))) e ∙ ap (any (λ b. eqb b (a .v))) (take-length (now (a .row)))
+    l .inv .1 ∙ ap (λ (n : ℕ). someOf (λ b. eqb b (a .v)) (take n (now (a .row)))) e ∙ ap (someOf (λ b. eqb b (a .v))) (take-length (now (a .row)))
 
 pub has-label-spec : {M : Type 1} → statement M
 has-label-spec =

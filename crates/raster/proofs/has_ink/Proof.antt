@@ -1,6 +1,6 @@
 -- `raster::has_ink` meets its contract.
 use Prim.Native.Nat.{_-_, _≤_, ℕ}
-use Rattle.morphology.specs.Lists.{any}
+use Rattle.morphology.specs.Lists.{someOf}
 use Rattle.raster.proofs.CountLaws.{ink-more}
 use denote.Ref.{now}
 use lib.Dec.{eqb}
@@ -13,7 +13,7 @@ use Rattle.raster.proofs.has_ink.Statement.{statement}
 use Rattle.raster.proofs.has_ink.Tie as tie
 
 abbrev Inv-loop : tie.InvT-loop
-Inv-loop s seen₀ i₀ seen i = (i ≤ length s) × (not (eqb seen 0) ≡ any (λ b. not (eqb b 0)) (take i s))
+Inv-loop s seen₀ i₀ seen i = (i ≤ length s) × (not (eqb seen 0) ≡ someOf (λ b. not (eqb b 0)) (take i s))
 
 abbrev μ-loop : tie.MeasureT-loop
 μ-loop s seen₀ i₀ seen i = length s - i
@@ -40,7 +40,7 @@ returns c =
     let l = c .before .loop in
     let p = now (c .before .before .args .s) in
     let e : l .i ≡ length p = omega arith in
-    l .inv .1 ∙ ap (λ (n : ℕ). any (λ b. not (eqb b 0)) (take n p)) e ∙ ap (any (λ b. not (eqb b 0))) (take-length p)
+    l .inv .1 ∙ ap (λ (n : ℕ). someOf (λ b. not (eqb b 0)) (take n p)) e ∙ ap (someOf (λ b. not (eqb b 0))) (take-length p)
 
 pub has-ink-spec : {M : Type 1} → statement M
 has-ink-spec =

@@ -1,6 +1,6 @@
 -- `raster::is_clean` meets its contract.
 use Prim.Native.Nat.{_%_, _*_, _-_, _^_, _≤_, ℕ}
-use Rattle.morphology.specs.Lists.{all, upTo}
+use Rattle.morphology.specs.Lists.{everyOf, upTo}
 use Rattle.morphology.specs.Lists.{tabulate}
 use Rattle.raster.proofs.CountLaws.{all-more, all-not, clean-with, lastClean, one-shl-pos, padding-lt}
 use Rattle.raster.proofs.RowLaws.{row-in}
@@ -16,7 +16,7 @@ use Rattle.raster.proofs.is_clean.Statement.{statement}
 use Rattle.raster.proofs.is_clean.Tie as tie
 
 abbrev Inv-loop : tie.InvT-loop
-Inv-loop s w h r m y₀ y = (y ≤ h) × (all (lastClean s r m) (upTo y) ≡ true)
+Inv-loop s w h r m y₀ y = (y ≤ h) × (everyOf (lastClean s r m) (upTo y) ≡ true)
 
 abbrev μ-loop : tie.MeasureT-loop
 μ-loop s w h r m y₀ y = h - y
@@ -96,7 +96,7 @@ returns-2 c =
     let l = c .before .loop in
     let e : l .y ≡ a .h = omega arith in
     sym (clean-with (a .w) (a .h) (a .r) (now (a .s)) (s .pre .0) (s .pre .2) (s .pre .3)
-    ∙ ap (λ (n : ℕ). all (lastClean (now (a .s)) (a .r) ((1 * 2 ^ (a .r * 8 - a .w)) % 2 ^ 8)) (upTo n)) (sym e) ∙ l .inv .1)
+    ∙ ap (λ (n : ℕ). everyOf (lastClean (now (a .s)) (a .r) ((1 * 2 ^ (a .r * 8 - a .w)) % 2 ^ 8)) (upTo n)) (sym e) ∙ l .inv .1)
 
 pub is-clean-spec : {M : Type 1} → statement M
 is-clean-spec =

@@ -1,6 +1,6 @@
 -- `raster::same_rows` meets its contract.
 use Prim.Native.Nat.{_+_, _-_, _≤_, ℕ}
-use Rattle.morphology.specs.Lists.{all, upTo}
+use Rattle.morphology.specs.Lists.{everyOf, upTo}
 use Rattle.morphology.specs.Lists.{tabulate}
 use Rattle.raster.proofs.CountLaws.{same-more}
 use denote.Ref.{now}
@@ -12,7 +12,7 @@ use Rattle.raster.proofs.same_rows.Statement.{statement}
 use Rattle.raster.proofs.same_rows.Tie as tie
 
 abbrev Inv-loop : tie.InvT-loop
-Inv-loop plane a b r differ₀ i₀ differ i = (i ≤ r) × (eqb differ 0 ≡ all (λ i. eqb (getD plane (a + i) 0) (getD plane (b + i) 0)) (upTo i))
+Inv-loop plane a b r differ₀ i₀ differ i = (i ≤ r) × (eqb differ 0 ≡ everyOf (λ i. eqb (getD plane (a + i) 0) (getD plane (b + i) 0)) (upTo i))
 
 abbrev μ-loop : tie.MeasureT-loop
 μ-loop plane a b r differ₀ i₀ differ i = r - i
@@ -50,7 +50,7 @@ returns c =
     let l = c .before .loop in
     let a = c .before .before .args in
     let e : l .i ≡ a .r = omega arith in
-    l .inv .1 ∙ ap (λ (n : ℕ). all (λ i. eqb (getD (now (a .plane)) (a .a + i) 0) (getD (now (a .plane)) (a .b + i) 0)) (upTo n)) e
+    l .inv .1 ∙ ap (λ (n : ℕ). everyOf (λ i. eqb (getD (now (a .plane)) (a .a + i) 0) (getD (now (a .plane)) (a .b + i) 0)) (upTo n)) e
 
 pub same-rows-spec : {M : Type 1} → statement M
 same-rows-spec =

@@ -6,14 +6,14 @@ use native.Mathlib.Omega.{arith}
 use borrow.Author.Needs.{needs}
 use denote.Ref.{now}
 use lib.ListN.{getD, length}
-use Rattle.morphology.specs.Lists.{any, tabulate, upTo}
+use Rattle.morphology.specs.Lists.{someOf, tabulate, upTo}
 use Rattle.wild.specs.Wild.{over}
 use Rattle.wild.proofs.WildLaws.{any-more}
 use Rattle.wild.proofs.row_is_wild.Statement.{statement}
 use Rattle.wild.proofs.row_is_wild.Tie as tie
 
 abbrev Inv-loop : tie.InvT-loop
-Inv-loop row limits limit wild₀ x₀ wild x = (x ≤ length row) × (wild ≡ any (λ i. over (getD row i 0) (getD limits i 0) limit) (upTo x))
+Inv-loop row limits limit wild₀ x₀ wild x = (x ≤ length row) × (wild ≡ someOf (λ i. over (getD row i 0) (getD limits i 0) limit) (upTo x))
 
 abbrev μ-loop : tie.MeasureT-loop
 μ-loop row limits limit wild₀ x₀ wild x = length row - x
@@ -49,7 +49,7 @@ returns c =
     let a = c .before .before .before .before .args in
     let l = c .before .loop in
     let e : l .x ≡ length (now (a .row)) = omega arith in
-    l .inv .1 ∙ ap (λ (n : ℕ). any (λ i. over (getD (now (a .row)) i 0) (getD (now (a .limits)) i 0) (a .limit)) (upTo n)) e
+    l .inv .1 ∙ ap (λ (n : ℕ). someOf (λ i. over (getD (now (a .row)) i 0) (getD (now (a .limits)) i 0) (a .limit)) (upTo n)) e
 
 pub row-is-wild-spec : {M : Type 1} → statement M
 row-is-wild-spec =

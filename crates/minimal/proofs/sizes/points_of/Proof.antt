@@ -7,19 +7,19 @@ use denote.Ref.{now}
 use lib.Dec.{eqb}
 use lib.ListN.{getD, length, take}
 use lib.Seq.{length-take-le, take-length}
-use Rattle.morphology.specs.Lists.{count}
+use Rattle.morphology.specs.Lists.{countOf}
 use Rattle.morphology.proofs.CountLaws.{count-le, count-take, digit, digit-le}
 use Rattle.minimal.proofs.sizes.points_of.Statement.{statement}
 use Rattle.minimal.proofs.sizes.points_of.Tie as tie
 
 abbrev Inv-loop : tie.InvT-loop
-Inv-loop labels n₀ i₀ n i = (i ≤ length labels) × (n ≡ count (λ v. not (eqb v 0)) (take i labels))
+Inv-loop labels n₀ i₀ n i = (i ≤ length labels) × (n ≡ countOf (λ v. not (eqb v 0)) (take i labels))
 
 abbrev μ-loop : tie.MeasureT-loop
 μ-loop labels n₀ i₀ n i = length labels - i
 
 loop-holds : tie.Need-loop-holds Inv-loop μ-loop
-unfolding count
+unfolding countOf
 loop-holds c = (omega arith, refl)
 
 shared-slice-read-one-if-point : tie.Need-shared-slice-read-one-if-point Inv-loop μ-loop
@@ -54,7 +54,7 @@ returns c =
     let m = now (c .before .before .before .args .labels) in
     let l = c .before .loop in
     let e : l .i ≡ length m = omega (arith, l .inv .0, c .loop-test .left) in
-    l .inv .1 ∙ ap (λ (k : ℕ). count (λ v. not (eqb v 0)) (take k m)) e ∙ ap (count (λ v. not (eqb v 0))) (take-length m)
+    l .inv .1 ∙ ap (λ (k : ℕ). countOf (λ v. not (eqb v 0)) (take k m)) e ∙ ap (countOf (λ v. not (eqb v 0))) (take-length m)
 
 pub points-of-spec : {M : Type 1} → statement M
 points-of-spec =
