@@ -1,39 +1,94 @@
 -- The claims of 01, each proved.
 use mathlib.Core.Bool.{Bool, _&&_, _||_, false, not}
 use mathlib.Core.List.{List, [], _∷_}
+use mathlib.Core.Logic.{_↔_}
 use mathlib.Core.Path.{_∙_, _≡_, ap, ap₂, refl, subst, sym}
-use Prim.Native.Nat.{_*_, _+_, _<_, max, suc, zero, zero-le, ℕ}
-use native.Mathlib.Nat.{le-refl, zero-lt-suc}
+use Prim.Native.Nat.{_*_, _+_, _-_, _<_, _≤_, suc, zero, zero-le, ℕ}
+use native.Mathlib.Nat.{le-refl, suc-ne-zero}
 use native.Mathlib.Omega.{arith}
 use borrow.Author.Tests.{ne-eqb}
-use lib.Dec.{T, eqb, leb, leb→le, ltb, ltb→lt}
+use lib.Dec.{T, eqb}
+use lib.IntN.{pos}
 use lib.ListN.{getD, length}
-use lib.Pow.{areBytes}
-use Rattle.claims.specs.Claims.{Buffers, Closed, CutIsOpening, Image, LabelsStay, RebuildIsExact, RefusesExactly, SettledCases, ShorteningIsMinimal, SieveIsAccepted, SieveList, SizeZeroStays, TableInOrder, ThinningEnds}
+use Rattle.claims.specs.Claims.{
+  Buffers,
+  CutIsOpening,
+  Image,
+  LabelsAreSizes,
+  LabelsStay,
+  RebuildIsExact,
+  RebuildsTheUnion,
+  RefusesExactly,
+  SettledCases,
+  ShorteningIsMinimal,
+  SieveIsAccepted,
+  SieveList,
+  SizeZeroStays,
+  Sizes,
+  ThinningEnds,
+  ThinningStops,
+  WritesImages,
+}
+use Rattle.claims.specs.Formula.{HasSize, Ink, Offset}
 use Rattle.claims.specs.Sieves.{accepted, isRefused, largestCut, rebuilt, sieveAll, sieveRefused, takenApart}
-use Rattle.morphology.specs.Answers.{Outcome, foreground, outcome, output}
-use Rattle.morphology.specs.Element.{isElement, offsets}
+use Rattle.morphology.specs.Answers.{Outcome, foreground, outcome, output, thinned}
+use Rattle.morphology.specs.Element.{isElement, isMask, offsets}
 use Rattle.morphology.specs.Image.{imageSet, pack}
 use Rattle.morphology.specs.Labels.{area}
 use Rattle.morphology.specs.Lists.{greatest}
 use Rattle.morphology.specs.Minimal.{minimalLabels}
-use Rattle.morphology.specs.Morphology.{opening, times}
-use Rattle.morphology.specs.Operations.{cleared, decomposeRows, decomposed, foldRows, hitRows, labelled, minimiseRows, reconstructRows, reconstructed, skeletonAnswer, thinRows, writes}
-use Rattle.morphology.specs.Point.{Point}
+use Rattle.morphology.specs.Morphology.{erode, opening, times}
+use Rattle.morphology.specs.Operations.{
+  cleared,
+  decomposeRows,
+  decomposed,
+  eroded,
+  foldRows,
+  hitOrMiss,
+  hitRows,
+  labelled,
+  minimiseRows,
+  minimised,
+  opened,
+  reconstructRows,
+  reconstructed,
+  skeletonAnswer,
+  thin,
+  thinRows,
+  writes,
+}
+use Rattle.morphology.specs.Point.{Point, at}
 use Rattle.morphology.specs.Refusals.{firstRefusal, isSide, maxSide}
-use Rattle.morphology.specs.Skeleton.{reconstruction, skeletonFunction, skeletonLabels}
-use Rattle.claims.proofs.RowLaws.{lowest, refuses}
-use Rattle.claims.proofs.ShorteningLaws.{minimised-labels, shortening}
-use Rattle.claims.proofs.SieveLaws.{decomposed-labels, sieves-open}
+use Rattle.morphology.specs.Skeleton.{reconstruction, skeletonLabels, skeletonSubset}
+use Rattle.morphology.specs.Thinning.{hit}
+use Rattle.claims.proofs.AcceptedLaws.{
+  Accepted,
+  decomposed-accepted,
+  eroded-accepted,
+  hit-accepted,
+  minimised-accepted,
+  opened-accepted,
+  reconstructed-accepted,
+  thinned-accepted,
+}
+use Rattle.claims.proofs.FormulaLaws.{covered-in, covered-out, image-is, ink-in, ink-out, offsets-are, size-in, size-out}
+use Rattle.claims.proofs.RowLaws.{refuses}
+use Rattle.claims.proofs.ShorteningLaws.{shortening}
+use Rattle.claims.proofs.SieveLaws.{sieves-open}
+use Rattle.claims.proofs.StopLaws.{passes-stop}
+use Rattle.claims.proofs.WritingLaws.{erode-part, hit-part, packed-writes, thinned-image}
 use Rattle.morphology.proofs.Cases.{settled}
 use Rattle.morphology.proofs.CoverLaws.{size-zero}
-use Rattle.morphology.proofs.ElementLaws.{element}
+use Rattle.morphology.proofs.ElementLaws.{Element, element}
 use Rattle.morphology.proofs.FrameLaws.{OnFrame}
-use Rattle.morphology.proofs.ImageLaws.{bytes-pack, clean-pack, image-on, image-pack, length-pack, pack-image}
-use Rattle.morphology.proofs.LabelLaws.{bytes-raster, length-raster}
-use Rattle.morphology.proofs.MorphologyLaws.{open-zero}
-use Rattle.morphology.proofs.RefusalLaws.{T-of-not, decompose-passes, false-of, first-out, good, image-passes, reconstruct-passes, unless-in, unless-zero}
-use Rattle.morphology.proofs.SkeletonLaws.{label-above, label-formula, label-le, open-on, reconstruction-open, skeleton-tame}
+use Rattle.morphology.proofs.ImageLaws.{image-on, image-pack, pack-image}
+use Rattle.morphology.proofs.LabelLaws.{length-raster, of-places, on-places}
+use Rattle.morphology.proofs.MorphologyLaws.{eroded-zero, open-zero, ⊆-of-eq}
+use Rattle.morphology.proofs.PlaneLaws.{byte-lt, on-sub}
+use Rattle.morphology.proofs.ReconstructLaws.{reconstruction-on}
+use Rattle.morphology.proofs.RefusalLaws.{Clear, T-of-not, decompose-passes, false-of, good, reconstruct-passes, side-le, unless-in}
+use Rattle.morphology.proofs.SkeletonLaws.{label-above, label-formula, labels-le, open-on, reconstruction-open, skeleton-tame}
+use Rattle.morphology.proofs.SubsetLaws.{eroded-down, subset-in}
 use Rattle.morphology.proofs.TestLaws.{and-l, and-r}
 use Rattle.morphology.proofs.ThinningLaws.{less, thin-enough, thin-idle}
 
@@ -44,29 +99,29 @@ settled-cases = settled
 
 -- ---- demand 1
 
-pub refuses-exactly : RefusesExactly
-refuses-exactly rows lent o q = let r = refuses (firstRefusal rows) lent o q in record { number = r .0; unchanged = r .1; accepted = r .2 }
+answer-accepted : (m : List ℕ) (n : ℕ) → skeletonAnswer m n .refusal ≡ 0
+answer-accepted m zero = refl
+answer-accepted m (suc n) = refl
 
-pub table-in-order : (W H e n : ℕ) (m : ℕ × ℕ) (a b c : List ℕ) → TableInOrder W H e n m a b c
-table-in-order W H e n m a b c = record {
-  fold = lowest (foldRows W H e n a b c) tt;
-  decompose = lowest (decomposeRows W H e a b c) tt;
-  reconstruct = lowest (reconstructRows W H e n a b c) tt;
-  minimise = lowest (minimiseRows W H e a b c) tt;
-  hit = lowest (hitRows W H m a b) tt;
-  thin = lowest (thinRows W H a b) tt;
+pub refuses-exactly : RefusesExactly
+unfolding eroded opened decomposed reconstructed minimised hitOrMiss thin
+refuses-exactly = record {
+  erosion = λ W H e n image out work. refuses (foldRows W H e n image out work) (out ∷ work ∷ []) _ tt refl;
+  opening = λ W H e n image out work. refuses (foldRows W H e n image out work) (out ∷ work ∷ []) _ tt refl;
+  decomposition = λ W H e image labels work.
+      let m = skeletonLabels W H (offsets e) (imageSet W H image) in
+      refuses (decomposeRows W H e image labels work) (labels ∷ work ∷ []) (labelled W H m work) tt (answer-accepted m (greatest m));
+  reconstruction = λ W H e k labels image work. refuses (reconstructRows W H e k labels image work) (image ∷ work ∷ []) _ tt refl;
+  minimisation = λ W H e labels work counters. refuses (minimiseRows W H e labels work counters) (labels ∷ work ∷ counters ∷ []) _ tt refl;
+  hits = λ W H m image out. refuses (hitRows W H m image out) (out ∷ []) _ tt refl;
+  thinning = λ W H image work. refuses (thinRows W H image work) (image ∷ work ∷ []) _ tt refl;
 }
 
 -- ---- demand 2
 
-byte-at : (s : List ℕ) → T (areBytes s) → (i : ℕ) → getD s i 0 < 256
-byte-at [] t i = zero-lt-suc 255
-byte-at (b ∷ s) t zero = ltb→lt b 256 (and-l (ltb b 256) (areBytes s) t)
-byte-at (b ∷ s) t (suc i) = byte-at s (and-r (ltb b 256) (areBytes s) t) i
-
 -- an accepted image is its set, packed
 canonical : (W H : ℕ) (image : List ℕ) → Image W H image → pack W H (imageSet W H image) ≡ image
-canonical W H image i = let g = good W H image (i .passes) in pack-image W H image (g .size) (byte-at image (i .bytes)) (g .clean)
+canonical W H image i = let g = good W H image (i .passes) in pack-image W H image (g .size) (λ k. byte-lt image k (i .bytes)) (g .clean)
 
 -- a decomposition that is let pass
 decomposed-is : (W H e : ℕ) (image m w : List ℕ) → Image W H image → T (isElement e) → Buffers W H m w
@@ -106,23 +161,121 @@ rebuild-is-exact W H e image target labels work work′ i el b b′ size =
     cut-is-opening W H e image target labels work work′ 0 i el b b′ size zero-le
     ∙ ap (λ (Y : Point → Bool). writes W H Y work′) (open-zero (offsets e) X)
     ∙ ap (λ (l : List ℕ). outcome (foreground (area W H X)) (l ∷ cleared W H work′ ∷ [])) (canonical W H image i) in
-    record { rebuilt = r; again = ap (λ (o : Outcome). decomposed W H e (output o) labels work) r }
+    let d = decomposed-is W H e image labels work i el b in
+    record {
+      rebuilt = r;
+      again = λ labels′ work″ b′.
+          ap (λ (o : Outcome). decomposed W H e (output o) labels′ work″) r
+          ∙ decomposed-is W H e image labels′ work″ i el b′
+          ∙ ap (λ (o : Outcome). outcome (o .answer) (output o ∷ cleared W H work″ ∷ [])) (sym d);
+    }
 
-pub closed : (W H e : ℕ) (X : Point → Bool) → T (isSide W && isSide H) → OnFrame W H X → Closed W H e X
-unfolding skeletonLabels
-closed W H e X sides on = record {
-  image = record { passes = image-passes W H (pack W H X) (record { sides = sides; size = length-pack W H X; clean = clean-pack W H X on }); bytes = bytes-pack W H X };
-  labels = bytes-raster W H (skeletonFunction (offsets e) X (max W H)) (λ p.
-      let w = and-r (leb 1 W) (leb W maxSide) (and-l (isSide W) (isSide H) sides) in
-      let h = and-r (leb 1 H) (leb H maxSide) (and-r (isSide W) (isSide H) sides) in
-      omega (arith, leb→le W maxSide w, leb→le H maxSide h, label-le (offsets e) X (max W H) p));
+-- the labels that a decomposition writes, by the formula
+
+pub labels-are-sizes : LabelsAreSizes
+labels-are-sizes W H e image labels work h = record {
+  labels = subst (Sizes W H (Offset e) (Ink W H image)) (sym q) sizes;
+  answer = ap (λ (o : Outcome). o .answer) (d .is) ∙ ap (λ (m : List ℕ). skeletonAnswer m (greatest m)) (sym q);
+  small = λ i. subst (λ (m : List ℕ). getD m i 0 ≤ maxSide) (sym q) (small i);
 }
+  where
+    B : List Point
+    B = offsets e
+
+    X : Point → Bool
+    X = imageSet W H image
+
+    m : List ℕ
+    m = skeletonLabels W H B X
+
+    d : Accepted (decomposeRows W H e image labels work) (decomposed W H e image labels work) (labelled W H m work)
+    d = decomposed-accepted W H e image labels work h
+
+    el : Element B
+    el = element e (T-of-not (isElement e) (d .clear .1 .0))
+
+    q : output (decomposed W H e image labels work) ≡ m
+    q = ap output (d .is)
+
+    here : (n : ℕ) (z : Point) → T (skeletonSubset B X n z) → HasSize (Offset e) (Ink W H image) n z
+    here = size-in B (Offset e) (offsets-are e) X (Ink W H image) (image-is W H image)
+
+    there : (n : ℕ) (z : Point) → HasSize (Offset e) (Ink W H image) n z → T (skeletonSubset B X n z)
+    there = size-out B (Offset e) (offsets-are e) X (Ink W H image) (image-is W H image)
+
+    formula : (x y n : ℕ) → x < W → y < H → (getD m (y * W + x) 0 ≡ suc n) ↔ T (skeletonSubset B X n (at (pos x) (pos y)))
+    formula x y n hx hy = label-formula W H B el X (image-on W H image) x y n hx hy
+
+    zero-of : (x y v : ℕ) → x < W → y < H → getD m (y * W + x) 0 ≡ v → ((n : ℕ) → HasSize (Offset e) (Ink W H image) n (at (pos x) (pos y)) → ⊥) → v ≡ 0
+    zero-of x y zero hx hy r f = refl
+    zero-of x y (suc n) hx hy r f = absurd (f n (here n (at (pos x) (pos y)) (formula x y n hx hy .0 r)))
+
+    sizes : Sizes W H (Offset e) (Ink W H image) m
+    sizes = record {
+      places = length-labels W H B X;
+      sizes = λ x y n hx hy.
+          let z = at (pos x) (pos y) in ((λ r. here n z (formula x y n hx hy .0 r)), (λ s. formula x y n hx hy .1 (there n z s)));
+      none = λ x y hx hy. (
+        (λ r n s. suc-ne-zero n (sym (formula x y n hx hy .1 (there n (at (pos x) (pos y)) s)) ∙ r)),
+        (λ f. zero-of x y (getD m (y * W + x) 0) hx hy refl f),
+      );
+      elsewhere = λ z n s.
+          of-places W H
+          (on-places W H X (image-on W H image) z
+          (⊆-of-eq (eroded-zero B X) z (eroded-down B (el .centred) X 0 n zero-le z (subset-in B (el .centred) X n z (there n z s)))));
+    }
+
+    small : (i : ℕ) → getD m i 0 ≤ maxSide
+    small i =
+        let s = T-of-not (isSide W && isSide H) (d .clear .0) in
+        omega (arith, side-le W (and-l (isSide W) (isSide H) s), side-le H (and-r (isSide W) (isSide H) s), labels-le W H B X i)
+
+-- what a reconstruction writes
+
+kept-on-frame : (W H e k : ℕ) (labels image work : List ℕ) → Clear (reconstructRows W H e k labels image work)
+    → OnFrame W H (reconstruction W H (offsets e) k labels)
+kept-on-frame W H e k labels image work c = reconstruction-on W H (offsets e) (element e (T-of-not (isElement e) (c .1 .0))) labels k (c .1 .1 .1 .0)
+
+pub rebuilds-the-union : RebuildsTheUnion
+rebuilds-the-union W H e k labels image work h z =
+    let B = offsets e in
+    let m = reconstruction W H B k labels in
+    let a = reconstructed-accepted W H e k labels image work h in
+    let s : imageSet W H (output (reconstructed W H e k labels image work)) ≡ m =
+    ap (imageSet W H) (ap output (a .is)) ∙ image-pack W H m (kept-on-frame W H e k labels image work (a .clear)) in (
+      (λ i. covered-in B (Offset e) (offsets-are e) W H k labels z (⊆-of-eq s z (ink-out W H _ z i))),
+      (λ c. ink-in W H _ z (⊆-of-eq (sym s) z (covered-out B (Offset e) (offsets-are e) W H k labels z c))),
+    )
+
+pub writes-images : WritesImages
+unfolding thin
+writes-images = record {
+  erosion = λ W H e n image out work h.
+      let a = eroded-accepted W H e n image out work h in
+      let X = imageSet W H image in
+      let Y = erode (times (offsets e) n) X in
+      let part = erode-part (offsets e) (element e (T-of-not (isElement e) (a .clear .1 .0))) n X in
+      packed-writes W H (sides W H (a .clear .0)) Y _ _ (on-sub W H Y X part (image-on W H image)) (a .is);
+  opening = λ W H e n image out work h.
+      let a = opened-accepted W H e n image out work h in
+      packed-writes W H (sides W H (a .clear .0)) (opening (times (offsets e) n) (imageSet W H image)) _ _ (open-on W H (times (offsets e) n) (imageSet W H image) (image-on W H image)) (a .is);
+  reconstruction = λ W H e k labels image work h.
+      let a = reconstructed-accepted W H e k labels image work h in
+      packed-writes W H (sides W H (a .clear .0)) (reconstruction W H (offsets e) k labels) _ _ (kept-on-frame W H e k labels image work (a .clear)) (a .is);
+  hits = λ W H m image out h.
+      let a = hit-accepted W H m image out h in
+      let X = imageSet W H image in
+      let part = hit-part m (T-of-not (isMask m) (a .clear .1 .1 .1 .0)) X in
+      packed-writes W H (sides W H (a .clear .0)) (hit m X) _ _ (on-sub W H (hit m X) X part (image-on W H image)) (a .is);
+  thinning = λ W H image work h.
+      let a = thinned-accepted W H image work h in
+      subst (Image W H) (sym (ap output (a .is))) (thinned-image W H (sides W H (a .clear .0)) (area W H (imageSet W H image)) image);
+}
+  where
+    sides : (W H : ℕ) → not (isSide W && isSide H) ≡ false → T (isSide W && isSide H)
+    sides W H = T-of-not (isSide W && isSide H)
 
 -- ---- demand 3
-
-answer-accepted : (m : List ℕ) (n : ℕ) → skeletonAnswer m n .refusal ≡ 0
-answer-accepted m zero = refl
-answer-accepted m (suc n) = refl
 
 pub sieve-is-accepted : SieveIsAccepted
 unfolding sieveRefused takenApart rebuilt
@@ -167,17 +320,30 @@ size-zero-stays W H e image labels work work′ counters h h′ i l q =
     let X = imageSet W H image in
     let s = skeletonLabels W H (offsets e) X in
     let m = output (decomposed W H e image labels work) in
-    let p : m ≡ s = decomposed-labels W H e image labels work h in
-    let z = unless-zero (firstRefusal (decomposeRows W H e image labels work)) (labels ∷ work ∷ []) (labelled W H s work) h in
-    let r1 = first-out 1 _ _ tt z in
-    let r2 = first-out 2 _ _ tt (r1 .1) in
-    let el = element e (T-of-not (isElement e) (r2 .0)) in
-    ap (λ (k : List ℕ). getD k i 0) (minimised-labels W H e m work′ counters h′)
+    let a = decomposed-accepted W H e image labels work h in
+    let p : m ≡ s = ap output (a .is) in
+    let el = element e (T-of-not (isElement e) (a .clear .1 .0)) in
+    ap (λ (k : List ℕ). getD k i 0) (ap output (minimised-accepted W H e m work′ counters h′ .is))
     ∙ subst (λ (k : List ℕ). getD k i 0 ≡ 1 → getD (minimalLabels W H (offsets e) k) i 0 ≡ 1) (sym p) (size-zero W H (offsets e) el X (image-on W H image) i l) q
 
 -- ---- thinning
 
-pub thinning-ends : (W H : ℕ) (image : List ℕ) → ThinningEnds W H image
+pub thinning-stops : ThinningStops
+thinning-stops W H image work h =
+    let a = thinned-accepted W H image work h in
+    let n = area W H (imageSet W H image) in
+    let s = passes-stop W H n image (le-refl n) in (
+      s .0,
+      record {
+        idle = s .1 .idle;
+        busy = s .1 .busy;
+        left = ap output (a .is) ∙ s .1 .left;
+        answer = ap (λ (o : Outcome). o .answer) (a .is)
+            ∙ ap₂ (λ (p : ℕ) (t : List ℕ). thinned p (n - area W H (imageSet W H t)) (area W H (imageSet W H t))) (s .1 .passes) (s .1 .left);
+      },
+    )
+
+pub thinning-ends : ThinningEnds
 thinning-ends W H image =
     let n = area W H (imageSet W H image) in
     record {

@@ -9,20 +9,19 @@ use lib.Dec.{T, eqb}
 use lib.ListN.{length, length-append}
 use Rattle.claims.specs.Claims.{OneFrame}
 use Rattle.claims.specs.Sieves.{Sieve, accepted, isRefused, largestCut, rebuilt, sieveAll, sieveRefused, sieved, takenApart}
+use Rattle.claims.proofs.AcceptedLaws.{decomposed-accepted, reconstructed-accepted}
 use Rattle.morphology.specs.Answers.{Outcome, foreground, output}
 use Rattle.morphology.specs.Element.{isElement, offsets}
 use Rattle.morphology.specs.Image.{imageSet, pack}
 use Rattle.morphology.specs.Labels.{area}
 use Rattle.morphology.specs.Lists.{greatest}
 use Rattle.morphology.specs.Morphology.{opening, times}
-use Rattle.morphology.specs.Operations.{decomposeRows, decomposed, labelled, reconstructRows, reconstructed, writes}
 use Rattle.morphology.specs.Point.{Point}
-use Rattle.morphology.specs.Refusals.{firstRefusal}
-use Rattle.morphology.specs.Skeleton.{reconstruction, skeletonLabels}
+use Rattle.morphology.specs.Skeleton.{reconstruction}
 use Rattle.morphology.proofs.ElementLaws.{element}
 use Rattle.morphology.proofs.ImageLaws.{image-on, image-pack}
 use Rattle.morphology.proofs.MorphologyLaws.{open-max, open-zero}
-use Rattle.morphology.proofs.RefusalLaws.{or-out-false, unless-out}
+use Rattle.morphology.proofs.RefusalLaws.{or-out-false}
 use Rattle.morphology.proofs.SkeletonLaws.{open-on, reconstruction-open}
 
 -- the opening of an image by the k-fold element
@@ -31,21 +30,6 @@ openingOf W H e k image = opening (times (offsets e) k) (imageSet W H image)
 
 not-refused : (o : Outcome) → isRefused o ≡ false → o .answer .refusal ≡ 0
 not-refused o h = eqb-true (o .answer .refusal) 0 (not-false (eqb (o .answer .refusal) 0) h)
-
--- a decomposition that is not refused leaves the image's labels
-pub decomposed-labels : (W H e : ℕ) (image labels work : List ℕ) → decomposed W H e image labels work .answer .refusal ≡ 0
-    → output (decomposed W H e image labels work) ≡ skeletonLabels W H (offsets e) (imageSet W H image)
-unfolding decomposed
-decomposed-labels W H e image labels work h =
-    ap output
-    (unless-out (firstRefusal (decomposeRows W H e image labels work)) (labels ∷ work ∷ []) (labelled W H (skeletonLabels W H (offsets e) (imageSet W H image)) work) h)
-
--- a reconstruction that is not refused writes what it says
-reconstructed-image : (W H e k : ℕ) (labels image work : List ℕ) → reconstructed W H e k labels image work .answer .refusal ≡ 0
-    → reconstructed W H e k labels image work ≡ writes W H (reconstruction W H (offsets e) k labels) work
-unfolding reconstructed
-reconstructed-image W H e k labels image work h =
-    unless-out (firstRefusal (reconstructRows W H e k labels image work)) (image ∷ work ∷ []) (writes W H (reconstruction W H (offsets e) k labels) work) h
 
 -- what a sieve leaves and answers: the opening by its cut
 abbrev Opens : Sieve → List ℕ → ℕ → ℕ → ℕ → Type 0
@@ -62,8 +46,8 @@ sieve-own s image el h =
     let k = s .cut in
     let m = output (takenApart s image) in
     let r = or-out-false (isRefused (takenApart s image)) (isRefused (rebuilt s image)) h in
-    let a = decomposed-labels W H e image (s .labels) (s .firstWork) (not-refused (takenApart s image) (r .0)) in
-    let b = reconstructed-image W H e k m image (s .secondWork) (not-refused (rebuilt s image) (r .1)) in
+    let a = ap output (decomposed-accepted W H e image (s .labels) (s .firstWork) (not-refused (takenApart s image) (r .0)) .is) in
+    let b = reconstructed-accepted W H e k m image (s .secondWork) (not-refused (rebuilt s image) (r .1)) .is in
     let X : reconstruction W H (offsets e) k m ≡ openingOf W H e k image =
     ap (reconstruction W H (offsets e) k) a ∙ reconstruction-open W H (offsets e) (element e el) (imageSet W H image) (image-on W H image) k in
     (ap output b ∙ ap (pack W H) X, ap (λ (o : Outcome). o .answer) b ∙ ap (λ (Y : Point → Bool). foreground (area W H Y)) X)

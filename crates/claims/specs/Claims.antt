@@ -1,24 +1,42 @@
 -- The claims of 01 as statements, on the operations as morphology/specs/Operations.antt defines them. Definitions only; proofs/Claims.antt proves each.
-use mathlib.Core.Bool.{Bool, false, true}
+use mathlib.Core.Bool.{false, true}
 use mathlib.Core.List.{List, List·Memᴰ, [], _++_, _∷_}
 use mathlib.Core.Logic.{_↔_, _≢_, _⊎_}
 use mathlib.Core.Path.{_≡_}
-use Prim.Native.Nat.{_*_, _+_, _<_, _≤_, suc, ℕ}
+use Prim.Native.Nat.{_*_, _+_, _-_, _<_, _≤_, suc, zero, ℕ}
 use lib.Dec.{T}
 use lib.IntN.{pos}
 use lib.ListN.{getD, length, set}
 use lib.Pow.{areBytes}
+use Rattle.claims.specs.Formula.{Covered, HasSize, Ink, Offset, Set}
 use Rattle.claims.specs.Sieves.{Sieve, accepted, largestCut, sieveAll, sieveRefused}
-use Rattle.morphology.specs.Answers.{Outcome, foreground, outcome, output, refused}
+use Rattle.morphology.specs.Answers.{Outcome, foreground, outcome, output, refused, thinned}
 use Rattle.morphology.specs.Cases.{Settled}
 use Rattle.morphology.specs.Element.{isElement, offsets}
 use Rattle.morphology.specs.Image.{imageSet, pack, planeBytes}
 use Rattle.morphology.specs.Labels.{area}
+use Rattle.morphology.specs.Lists.{greatest}
 use Rattle.morphology.specs.Morphology.{opening, times}
-use Rattle.morphology.specs.Operations.{cleared, decomposeRows, decomposed, foldRows, hitRows, minimiseRows, minimised, reconstructRows, reconstructed, thinRows}
+use Rattle.morphology.specs.Operations.{
+  cleared,
+  decomposeRows,
+  decomposed,
+  eroded,
+  foldRows,
+  hitOrMiss,
+  hitRows,
+  minimiseRows,
+  minimised,
+  opened,
+  reconstructRows,
+  reconstructed,
+  skeletonAnswer,
+  thin,
+  thinRows,
+}
 use Rattle.morphology.specs.Point.{Point, at}
-use Rattle.morphology.specs.Refusals.{Row, checked, firstRefusal, imageRows, isWild, maxSide}
-use Rattle.morphology.specs.Skeleton.{reconstruction, skeletonLabels, skeletonSubset}
+use Rattle.morphology.specs.Refusals.{Row, firstRefusal, imageRows, isWild, maxSide}
+use Rattle.morphology.specs.Skeleton.{skeletonLabels, skeletonSubset}
 use Rattle.morphology.specs.Thinning.{golayL, thinPass, thinPasses}
 
 -- ---- the settled cases
@@ -29,28 +47,33 @@ SettledCases = Settled
 
 -- ---- demand 1: refusals
 
--- A call whose success is no refusal is refused exactly when a row holds; then it answers that number alone and leaves the buffers as they were.
+-- a row of the table holds for a call, and its number is n
+abbrev pub Holds : ℕ → List Row → Type 0
+Holds n rows = List·Memᴰ (n, true) rows
+
+-- What a call answers and leaves, by its rows of the table and the buffers that it is lent.
 pub record Refuses (rows : List Row) (lent : List (List ℕ)) (o : Outcome) : Type 0 where
-  pub number : checked rows lent o .answer .refusal ≡ firstRefusal rows
-  pub unchanged : firstRefusal rows ≢ 0 → checked rows lent o ≡ outcome (refused (firstRefusal rows)) lent
-  pub accepted : firstRefusal rows ≡ 0 → checked rows lent o ≡ o
+  -- where a row holds the call is refused, and no lower number holds than the one answered
+  pub refuses : (n : ℕ) → Holds n rows → (o .answer .refusal ≢ 0) × (o .answer .refusal ≤ n)
+  -- it is refused only where a row holds: that of the number answered
+  pub holds : o .answer .refusal ≢ 0 → Holds (o .answer .refusal) rows
+  -- a refusal answers its number alone, and no lent byte has changed
+  pub unchanged : o .answer .refusal ≢ 0 → o ≡ outcome (refused (o .answer .refusal)) lent
 
-abbrev pub RefusesExactly : Type 0
-RefusesExactly = (rows : List Row) (lent : List (List ℕ)) (o : Outcome) → o .answer .refusal ≡ 0 → Refuses rows lent o
-
--- The number is that of a row that holds, and no row that holds has a lower one.
-pub record Lowest (rows : List Row) : Type 0 where
-  pub holds : firstRefusal rows ≢ 0 → List·Memᴰ (firstRefusal rows, true) rows
-  pub least : (n : ℕ) → List·Memᴰ (n, true) rows → firstRefusal rows ≤ n
-
--- The rows of every operation stand in the table's order, so that this is so of each.
-pub record TableInOrder (W H e n : ℕ) (m : ℕ × ℕ) (a b c : List ℕ) : Type 0 where
-  pub fold : Lowest (foldRows W H e n a b c)
-  pub decompose : Lowest (decomposeRows W H e a b c)
-  pub reconstruct : Lowest (reconstructRows W H e n a b c)
-  pub minimise : Lowest (minimiseRows W H e a b c)
-  pub hit : Lowest (hitRows W H m a b)
-  pub thin : Lowest (thinRows W H a b)
+-- So is each of the seven operations, for all arguments and all bytes.
+pub record RefusesExactly : Type 0 where
+  pub erosion : (W H e n : ℕ) (image out work : List ℕ)
+      → Refuses (foldRows W H e n image out work) (out ∷ work ∷ []) (eroded W H e n image out work)
+  pub opening : (W H e n : ℕ) (image out work : List ℕ)
+      → Refuses (foldRows W H e n image out work) (out ∷ work ∷ []) (opened W H e n image out work)
+  pub decomposition : (W H e : ℕ) (image labels work : List ℕ)
+      → Refuses (decomposeRows W H e image labels work) (labels ∷ work ∷ []) (decomposed W H e image labels work)
+  pub reconstruction : (W H e k : ℕ) (labels image work : List ℕ)
+      → Refuses (reconstructRows W H e k labels image work) (image ∷ work ∷ []) (reconstructed W H e k labels image work)
+  pub minimisation : (W H e : ℕ) (labels work counters : List ℕ)
+      → Refuses (minimiseRows W H e labels work counters) (labels ∷ work ∷ counters ∷ []) (minimised W H e labels work counters)
+  pub hits : (W H : ℕ) (m : ℕ × ℕ) (image out : List ℕ) → Refuses (hitRows W H m image out) (out ∷ []) (hitOrMiss W H m image out)
+  pub thinning : (W H : ℕ) (image work : List ℕ) → Refuses (thinRows W H image work) (image ∷ work ∷ []) (thin W H image work)
 
 -- ---- demand 2: taking apart and rebuilding
 
@@ -64,6 +87,44 @@ pub record Buffers (W H : ℕ) (m w : List ℕ) : Type 0 where
   pub labels : length m ≡ W * H
   pub work : 3 * planeBytes W H ≤ length w
 
+-- A label for each place: n + 1 exactly at the points of size n, 0 exactly where there is no size; and no point of any size is elsewhere.
+pub record Sizes (W H : ℕ) (B X : Set) (m : List ℕ) : Type 0 where
+  pub places : length m ≡ W * H
+  pub sizes : (x y n : ℕ) → x < W → y < H → (getD m (y * W + x) 0 ≡ suc n) ↔ HasSize B X n (at (pos x) (pos y))
+  pub none : (x y : ℕ) → x < W → y < H → (getD m (y * W + x) 0 ≡ 0) ↔ ((n : ℕ) → HasSize B X n (at (pos x) (pos y)) → ⊥)
+  pub elsewhere : (z : Point) (n : ℕ) → HasSize B X n z → (x y : ℕ) × (x < W) × (y < H) × (z ≡ at (pos x) (pos y))
+
+-- The labels that a decomposition writes are the formula's; its answer counts them, and none is above the largest side.
+pub record Decomposes (W H e : ℕ) (image : List ℕ) (o : Outcome) : Type 0 where
+  pub labels : Sizes W H (Offset e) (Ink W H image) (output o)
+  pub answer : o .answer ≡ skeletonAnswer (output o) (greatest (output o))
+  pub small : (i : ℕ) → getD (output o) i 0 ≤ maxSide
+
+abbrev pub LabelsAreSizes : Type 0
+LabelsAreSizes =
+    (W H e : ℕ) (image labels work : List ℕ) → decomposed W H e image labels work .answer .refusal ≡ 0
+    → Decomposes W H e image (decomposed W H e image labels work)
+
+-- What a reconstruction writes is ink exactly where some kept point, dilated to its size, covers it.
+abbrev pub RebuildsTheUnion : Type 0
+RebuildsTheUnion =
+    (W H e k : ℕ) (labels image work : List ℕ) → reconstructed W H e k labels image work .answer .refusal ≡ 0
+    → (z : Point) → Ink W H (output (reconstructed W H e k labels image work)) z ↔ Covered W H (Offset e) k labels z
+
+-- An image is written that can be handed in again, and its area is answered.
+pub record Writes (W H : ℕ) (o : Outcome) : Type 0 where
+  pub image : Image W H (output o)
+  pub answer : o .answer ≡ foreground (area W H (imageSet W H (output o)))
+
+-- So does every operation that writes an image and is not refused; what thinning answers is said below.
+pub record WritesImages : Type 0 where
+  pub erosion : (W H e n : ℕ) (image out work : List ℕ) → let o = eroded W H e n image out work in o .answer .refusal ≡ 0 → Writes W H o
+  pub opening : (W H e n : ℕ) (image out work : List ℕ) → let o = opened W H e n image out work in o .answer .refusal ≡ 0 → Writes W H o
+  pub reconstruction : (W H e k : ℕ) (labels image work : List ℕ)
+      → let o = reconstructed W H e k labels image work in o .answer .refusal ≡ 0 → Writes W H o
+  pub hits : (W H : ℕ) (m : ℕ × ℕ) (image out : List ℕ) → let o = hitOrMiss W H m image out in o .answer .refusal ≡ 0 → Writes W H o
+  pub thinning : (W H : ℕ) (image work : List ℕ) → let o = thin W H image work in o .answer .refusal ≡ 0 → Image W H (output o)
+
 -- Reconstructing a decomposition at a cut k is never refused, and writes the opening by the k-fold element, byte for byte;
 -- target and work′ are those of the second call, with any contents.
 abbrev pub CutIsOpening : Type 0
@@ -74,15 +135,16 @@ CutIsOpening =
     let X = opening (times (offsets e) k) (imageSet W H image) in
     reconstructed W H e k m target work′ ≡ outcome (foreground (area W H X)) (pack W H X ∷ cleared W H work′ ∷ [])
 
--- At cut 0 it is the image itself, all P bytes and its area; and the image so rebuilt has the labels that it was rebuilt from.
+-- At cut 0 it is the image itself, all P bytes and its area; and from the image so rebuilt the labels that it was rebuilt from are found again,
+-- with the same answer, in any labels and work of the right lengths.
 pub record Exact (W H e : ℕ) (image target labels work work′ : List ℕ) : Type 0 where
   pub rebuilt :
       let m = output (decomposed W H e image labels work) in
       reconstructed W H e 0 m target work′ ≡ outcome (foreground (area W H (imageSet W H image))) (image ∷ cleared W H work′ ∷ [])
-  pub again :
-      let m = output (decomposed W H e image labels work) in
-      let t = output (reconstructed W H e 0 m target work′) in
-      decomposed W H e t labels work ≡ decomposed W H e image labels work
+  pub again : (labels′ work″ : List ℕ) → Buffers W H labels′ work″
+      → let d = decomposed W H e image labels work in
+      let t = output (reconstructed W H e 0 (output d) target work′) in
+      decomposed W H e t labels′ work″ ≡ outcome (d .answer) (output d ∷ cleared W H work″ ∷ [])
 
 abbrev pub RebuildIsExact : Type 0
 RebuildIsExact =
@@ -91,19 +153,17 @@ RebuildIsExact =
 
 -- The labels of an image never meet row 5, at any cut.
 abbrev pub LabelsStay : Type 0
-LabelsStay = (W H e : ℕ) (image : List ℕ) (k : ℕ) → T (isElement e) → isWild W H (offsets e) k (skeletonLabels W H (offsets e) (imageSet W H image)) ≡ false
-
--- What is written is an image again, and its labels are bytes.
-pub record Closed (W H e : ℕ) (X : Point → Bool) : Type 0 where
-  pub image : Image W H (pack W H X)
-  pub labels : T (areBytes (skeletonLabels W H (offsets e) X))
+LabelsStay =
+    (W H e : ℕ) (image : List ℕ) (k : ℕ) → T (isElement e)
+    → isWild W H (offsets e) k (skeletonLabels W H (offsets e) (imageSet W H image)) ≡ false
 
 -- ---- demand 3: a list of sieves
 
 -- A sieve of an accepted image with a frame, element, cut and buffers in order is not refused.
 abbrev pub SieveIsAccepted : Type 0
 SieveIsAccepted =
-    (s : Sieve) (image : List ℕ) → Image (s .width) (s .height) image → T (isElement (s .element)) → Buffers (s .width) (s .height) (s .labels) (s .firstWork)
+    (s : Sieve) (image : List ℕ) → Image (s .width) (s .height) image → T (isElement (s .element))
+    → Buffers (s .width) (s .height) (s .labels) (s .firstWork)
     → 3 * planeBytes (s .width) (s .height) ≤ length (s .secondWork) → s .cut ≤ maxSide → sieveRefused s image ≡ false
 
 -- What holds after a list of sieves: done are those not refused, K is their largest cut, or 0.
@@ -115,7 +175,8 @@ pub record Sieved (W H e : ℕ) (first : List ℕ) (done : List (Sieve × Outcom
       → a .1 .answer ≡ foreground (area W H (opening (times (offsets e) K) (imageSet W H first)))
   -- the labels above K of the first image are the formula's
   pub formula : (x y n : ℕ) → x < W → y < H → K ≤ n
-      → (getD (skeletonLabels W H (offsets e) (imageSet W H first)) (y * W + x) 0 ≡ suc n) ↔ T (skeletonSubset (offsets e) (imageSet W H first) n (at (pos x) (pos y)))
+      → (getD (skeletonLabels W H (offsets e) (imageSet W H first)) (y * W + x) 0 ≡ suc n)
+      ↔ T (skeletonSubset (offsets e) (imageSet W H first) n (at (pos x) (pos y)))
   -- and those of the last image are the same at the same places
   pub labels : (x y n : ℕ) → x < W → y < H → K ≤ n
       → (getD (skeletonLabels W H (offsets e) (imageSet W H last)) (y * W + x) 0 ≡ suc n)
@@ -133,17 +194,21 @@ SieveList =
 
 -- ---- shortening
 
--- What minimisation leaves of the labels m.
+-- What minimisation leaves of the labels m, by what a reconstruction at cut 0 makes of it into any image and work.
 pub record Minimal (W H e : ℕ) (m m′ : List ℕ) : Type 0 where
   -- a label is kept or dropped
   pub part : (j : ℕ) → (getD m′ j 0 ≡ getD m j 0) ⊎ (getD m′ j 0 ≡ 0)
-  -- the image rebuilt at cut 0 is unchanged
-  pub unchanged : pack W H (reconstruction W H (offsets e) 0 m′) ≡ pack W H (reconstruction W H (offsets e) 0 m)
-  -- dropping any one more point changes it
-  pub irredundant : (i : ℕ) → i < W * H → getD m′ i 0 ≢ 0
-      → pack W H (reconstruction W H (offsets e) 0 (set m′ i 0)) ≢ pack W H (reconstruction W H (offsets e) 0 m′)
+  -- the outcome is the same: the image, its area, the work
+  pub unchanged : (image work : List ℕ) → reconstructed W H e 0 m′ image work ≡ reconstructed W H e 0 m image work
+  -- and no refusal, where image and work have their lengths
+  pub accepted : (image work : List ℕ) → length image ≡ planeBytes W H → 3 * planeBytes W H ≤ length work
+      → reconstructed W H e 0 m′ image work .answer .refusal ≡ 0
+  -- dropping any one more point changes the image
+  pub irredundant : (image work : List ℕ) → length image ≡ planeBytes W H → 3 * planeBytes W H ≤ length work
+      → (i : ℕ) → i < W * H → getD m′ i 0 ≢ 0
+      → output (reconstructed W H e 0 (set m′ i 0) image work) ≢ output (reconstructed W H e 0 m′ image work)
 
--- On every accepted map.
+-- Of every accepted map, from a scan or not.
 abbrev pub ShorteningIsMinimal : Type 0
 ShorteningIsMinimal =
     (W H e : ℕ) (labels work counters : List ℕ) → minimised W H e labels work counters .answer .refusal ≡ 0
@@ -159,9 +224,27 @@ SizeZeroStays =
 
 -- ---- thinning
 
--- Thinning ends: a pass that is not idle leaves fewer points, so that passes past one more than the points change nothing;
--- after the last pass a further one changes no byte.
-pub record ThinningEnds (W H : ℕ) (image : List ℕ) : Type 0 where
+-- the image after n passes, and its points
+unfoldable pub after : ℕ → ℕ → ℕ → List ℕ → List ℕ
+after zero W H image = image
+after (suc n) W H image = after n W H (thinPass W H golayL image)
+
+abbrev pub pointsAfter : ℕ → ℕ → ℕ → List ℕ → ℕ
+pointsAfter n W H image = area W H (imageSet W H (after n W H image))
+
+-- The pass after the first n is the first that removes nothing: it is the last, and counted; the answer has the points removed and those left.
+pub record Stops (W H : ℕ) (image : List ℕ) (o : Outcome) (n : ℕ) : Type 0 where
+  pub idle : pointsAfter n W H image ≡ pointsAfter (suc n) W H image
+  pub busy : (j : ℕ) → j < n → pointsAfter j W H image ≢ pointsAfter (suc j) W H image
+  pub left : output o ≡ after (suc n) W H image
+  pub answer : let left = pointsAfter (suc n) W H image in o .answer ≡ thinned (suc n) (area W H (imageSet W H image) - left) left
+
+abbrev pub ThinningStops : Type 0
+ThinningStops = (W H : ℕ) (image work : List ℕ) → thin W H image work .answer .refusal ≡ 0 → (n : ℕ) × Stops W H image (thin W H image work) n
+
+-- A pass that is not idle leaves fewer points, so that passes past one more than the points change nothing; after the last pass
+-- a further one changes no byte.
+pub record Ends (W H : ℕ) (image : List ℕ) : Type 0 where
   pub falls :
       let next = thinPass W H golayL image in
       area W H (imageSet W H image) ≢ area W H (imageSet W H next) → area W H (imageSet W H next) < area W H (imageSet W H image)
@@ -169,3 +252,7 @@ pub record ThinningEnds (W H : ℕ) (image : List ℕ) : Type 0 where
   pub idle :
       let left = thinPasses (suc (area W H (imageSet W H image))) W H image .image in
       thinPass W H golayL left ≡ left
+
+-- Thinning ends, whatever the bytes are.
+abbrev pub ThinningEnds : Type 0
+ThinningEnds = (W H : ℕ) (image : List ℕ) → Ends W H image

@@ -1,6 +1,7 @@
 -- The reconstruction as the cover of the labelled places; what shortening keeps of it.
 use mathlib.Core.Bool.{Bool, _&&_, _||_, false, not, true}
 use mathlib.Core.List.{List, List·Memᴰ, List·Memᴰ·eq-of-singleton}
+use mathlib.Core.Logic.{_⊎_, inl, inr}
 use mathlib.Core.Path.{_∙_, _≡_, ap, ap₂, refl, subst, sym}
 use Prim.Native.Nat.{_*_, _+_, _<_, max, suc, zero, zero-le, ℕ}
 use native.Mathlib.Nat.{div-add-mod', suc-ne-zero, zero-add}
@@ -24,6 +25,7 @@ use Rattle.morphology.proofs.LabelLaws.{getD-place, labelAt-place}
 use Rattle.morphology.proofs.MinimalLaws.{Sub, covered, covered-sub, covers-out, minimal-keeps, other}
 use Rattle.morphology.proofs.MorphologyLaws.{dilate-in, erode-out, erode-times, eroded-suc, sum-out, ⊆-of-eq}
 use Rattle.morphology.proofs.PointLaws.{assoc, unit}
+use Rattle.morphology.proofs.RefusalLaws.{false-of}
 use Rattle.morphology.proofs.SkeletonLaws.{any-agree}
 use Rattle.morphology.proofs.SubsetLaws.{of-label, origin-times, subset-in}
 use Rattle.morphology.proofs.TestLaws.{all-out, and-l, and-r, any-in, any-out}
@@ -61,6 +63,24 @@ module _ (W H : ℕ) (B : List Point) (el : Element B) where
 
   pub sub-on : (m′ m : List ℕ) → Sub m′ m → OnFrame W H (reconstruction W H B 0 m) → OnFrame W H (reconstruction W H B 0 m′)
   sub-on m′ m f on = record { across = λ p t. on .across p (reconstruct-sub m′ m f p t); down = λ p t. on .down p (reconstruct-sub m′ m f p t) }
+
+  -- and none of them leaves the frame where none of all does
+  pub sub-tame : (k : ℕ) (m′ m : List ℕ) → Sub m′ m → isWild W H B k m ≡ false → isWild W H B k m′ ≡ false
+  unfolding isWild leaves places
+  sub-tame k m′ m f tame = false-of _ (λ t.
+      let r = any-out (λ p. leaves W H B k p (labelAt W H m′ p)) (places W H) t in
+      let o = row-mem (place W) 0 (W * H) (r .1) in
+      go (o .0) (o .1) (subst (λ (p : Point). T (leaves W H B k p (labelAt W H m′ p))) (o .2 ∙ ap (place W) (zero-add (o .0))) (r .2)) (f (o .0)))
+    where
+      wild : (j v : ℕ) → getD m j 0 ≡ v → j < W * H → T (leaves W H B k (place W j) v) → ⊥
+      wild j v q h t =
+          subst T tame
+          (any-in (λ p. leaves W H B k p (labelAt W H m p)) (subst (λ (i : ℕ). List·Memᴰ (place W i) (places W H)) (zero-add j) (mem-row (place W) 0 (W * H) j h))
+          (subst (λ (v : ℕ). T (leaves W H B k (place W j) v)) (sym (labelAt-place W H m j h ∙ q)) t))
+
+      go : (j : ℕ) → j < W * H → T (leaves W H B k (place W j) (labelAt W H m′ (place W j))) → (getD m′ j 0 ≡ getD m j 0) ⊎ (getD m′ j 0 ≡ 0) → ⊥
+      go j h t (inl q) = wild j (getD m′ j 0) (sym q) h (subst (λ (v : ℕ). T (leaves W H B k (place W j) v)) (labelAt-place W H m′ j h) t)
+      go j h t (inr q) = subst (λ (v : ℕ). T (leaves W H B k (place W j) v)) (labelAt-place W H m′ j h ∙ q) t
 
   -- an accepted map's reconstruction lies on the frame
   pub reconstruct-on : (m : List ℕ) → isWild W H B 0 m ≡ false → OnFrame W H (reconstruction W H B 0 m)

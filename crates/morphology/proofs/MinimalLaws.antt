@@ -8,7 +8,7 @@ use native.Mathlib.Decide.{decLt, ℕ-discrete}
 use native.Mathlib.Nat.{suc-ne-zero, zero-add}
 use native.Mathlib.Omega.{arith}
 use lib.Dec.{T, T-not, eqb, eqb-refl, eqb→eq, leb, le→leb, not-T}
-use lib.ListN.{List·getD-eq-default, getD, length, set}
+use lib.ListN.{List·getD-eq-default, getD, length, length-set, set}
 use lib.Seq.{getD-set-other, getD-set-same, set-out}
 use Rattle.morphology.specs.Labels.{place, places}
 use Rattle.morphology.specs.Lists.{everyOf, someOf, upTo}
@@ -191,9 +191,32 @@ module _ (W H : ℕ) (B : List Point) where
       subst (λ (s : ℕ). Done s i (dropSizes W H B xs m′)) (sym e) (done-sub x i (dropSizes W H B xs m′) m′ (sizes-sub xs m′) (size-done x k m))
   sizes-done (List·Memᴰ·tail {x} {xs} k) i h m = sizes-done k i h (dropSize W H B x (upTo (W * H)) m)
 
+  -- no place goes
+  drop-length : (n i : ℕ) (m : List ℕ) → length (dropAt W H B n m i) ≡ length m
+  unfolding dropAt
+  drop-length n i m = go (eqb (getD m i 0) (suc n) && isRedundant W H B n m i)
+    where
+      go : (b : Bool) → length (cond b (set m i 0) m) ≡ length m
+      go true = length-set m i 0
+      go false = refl
+
+  size-length : (n : ℕ) (is m : List ℕ) → length (dropSize W H B n is m) ≡ length m
+  unfolding dropSize
+  size-length n [] m = refl
+  size-length n (i ∷ is) m = size-length n is (dropAt W H B n m i) ∙ drop-length n i m
+
+  pub sizes-length : (ns m : List ℕ) → length (dropSizes W H B ns m) ≡ length m
+  unfolding dropSizes
+  sizes-length [] m = refl
+  sizes-length (n ∷ ns) m = sizes-length ns (dropSize W H B n (upTo (W * H)) m) ∙ size-length n (upTo (W * H)) m
+
   pub minimal-sub : (N : ℕ) (m : List ℕ) → Sub (minimalBelow N W H B m) m
   unfolding minimalBelow
   minimal-sub N m = sizes-sub (upTo N) m
+
+  pub minimal-length : (N : ℕ) (m : List ℕ) → length (minimalBelow N W H B m) ≡ length m
+  unfolding minimalBelow
+  minimal-length N m = sizes-length (upTo N) m
 
   pub minimal-done : (N n i : ℕ) (m : List ℕ) → n < N → i < W * H → getD (minimalBelow N W H B m) i 0 ≡ suc n
       → T (isRedundant W H B n (minimalBelow N W H B m) i) → ⊥

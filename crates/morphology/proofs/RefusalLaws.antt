@@ -5,7 +5,7 @@ use mathlib.Core.Path.{_∙_, _≡_, ap, ap₂, refl, subst, sym}
 use Prim.Native.Nat.{_*_, _≤_, suc, zero, ℕ}
 use native.Mathlib.Nat.{suc-ne-zero}
 use borrow.Author.Tests.{eq-eqb, eqb-true, le-ltb, ne-eqb, not-false}
-use lib.Dec.{T, T-not, eqb}
+use lib.Dec.{T, T-not, eqb, leb, leb→le}
 use lib.ListN.{length}
 use Rattle.morphology.specs.Answers.{Outcome, outcome, refused}
 use Rattle.morphology.specs.Element.{isElement, offsets}
@@ -76,6 +76,12 @@ first-row n e q = q ∙ ap (λ (b : Bool). firstRefusal ((n, b) ∷ [])) e
 -- no row has the number 0
 abbrev pub numbered : List Row → Bool
 numbered rows = everyOf (λ r. not (eqb (r .0) 0)) rows
+
+-- where none is refused, no row holds
+pub clear-out : (rows : List Row) → T (numbered rows) → firstRefusal rows ≡ 0 → Clear rows
+clear-out [] h z = tt
+clear-out ((n, t) ∷ rows) h z =
+    let r = first-out n t rows (and-l (not (eqb n 0)) (numbered rows) h) z in (r .0, clear-out rows (and-r (not (eqb n 0)) (numbered rows) h) (r .1))
 
 pub first-append : (xs ys : List Row) → T (numbered xs) → firstRefusal (xs ++ ys) ≡ cond (eqb (firstRefusal xs) 0) (firstRefusal ys) (firstRefusal xs)
 unfolding firstRefusal
@@ -155,6 +161,11 @@ lengths-rest true b c rows p = absurd (subst T p tt)
 lengths-rest false true c rows p = refl
 lengths-rest false false true rows p = refl
 lengths-rest false false false rows p = refl
+
+-- ---- row 1
+
+pub side-le : (n : ℕ) → T (isSide n) → n ≤ maxSide
+side-le n t = leb→le n maxSide (and-r (leb 1 n) (leb n maxSide) t)
 
 -- ---- an image that rows 1, 3 and 4 let pass
 

@@ -9,9 +9,9 @@ use native.Mathlib.Nat.{le-refl}
 use native.Mathlib.Omega.{arith}
 use lib.Dec.{T, T-not, leb}
 use lib.IntN.{pos}
-use lib.ListN.{getD}
+use lib.ListN.{List·getD-eq-default, getD}
 use Rattle.morphology.specs.Image.{inside, onFrame}
-use Rattle.morphology.specs.Labels.{labelAt, places, raster}
+use Rattle.morphology.specs.Labels.{labelAt, place, places, raster}
 use Rattle.morphology.specs.Lists.{everyOf, someOf}
 use Rattle.morphology.specs.Morphology.{erode, opening, times}
 use Rattle.morphology.specs.Point.{Point, _⊞_, at}
@@ -19,7 +19,7 @@ use Rattle.morphology.specs.Refusals.{isWild, leaves}
 use Rattle.morphology.specs.Skeleton.{pick, reconstruct, reconstruction, skeletonFunction, skeletonLabels, skeletonSubset, stamp}
 use Rattle.morphology.proofs.ElementLaws.{Element}
 use Rattle.morphology.proofs.FrameLaws.{OnFrame, erode-empty}
-use Rattle.morphology.proofs.LabelLaws.{getD-raster, labelAt-raster, on-places}
+use Rattle.morphology.proofs.LabelLaws.{getD-place, getD-raster, labelAt-raster, length-raster, on-places}
 use Rattle.morphology.proofs.MorphologyLaws.{erode-out, eroded-zero, open-sub, ⊆-of-eq}
 use Rattle.morphology.proofs.SubsetLaws.{eroded-down, label-of, label-open, of-label, reconstruct-open, subset-in}
 use Rattle.morphology.proofs.TestLaws.{all-in, and-in, and-r, any-out}
@@ -48,6 +48,17 @@ pick-le p (suc N) = go (p N) (pick-le p N)
 pub label-le : (B : List Point) (X : Point → Bool) (N : ℕ) (z : Point) → skeletonFunction B X N z ≤ N
 unfolding skeletonFunction
 label-le B X N z = pick-le (λ n. skeletonSubset B X n z) N
+
+pub labels-le : (W H : ℕ) (B : List Point) (X : Point → Bool) (i : ℕ) → getD (skeletonLabels W H B X) i 0 ≤ max W H
+unfolding skeletonLabels
+labels-le W H B X i = by (decLt i (W * H))
+  where
+    f : Point → ℕ
+    f = skeletonFunction B X (max W H)
+
+    by : Dec (i < W * H) → getD (raster W H f) i 0 ≤ max W H
+    by (yes h) = subst (λ (n : ℕ). n ≤ max W H) (sym (getD-place W H f i h)) (label-le B X (max W H) (place W i))
+    by (no h) = subst (λ (n : ℕ). n ≤ max W H) (sym (List·getD-eq-default (raster W H f) 0 (omega (arith, length-raster W H f)))) zero-le
 
 pub open-on : (W H : ℕ) (B : List Point) (X : Point → Bool) → OnFrame W H X → OnFrame W H (opening B X)
 open-on W H B X on = record { across = λ p t. on .across p (open-sub B X p t); down = λ p t. on .down p (open-sub B X p t) }
