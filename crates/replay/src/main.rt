@@ -19,7 +19,8 @@
 //     1        how many values the answer has: none if it is refused; decompose has 2, or 1 of a blank image, thin 3, the others 1
 //     2..14    three values, 0 where there is none
 //
-// It ends at the end of the input, at input that ends inside a call, at an operation above 6 and at a length above 65,536.
+// It ends at the end of the input, at input that ends inside a call, at a read that fails, at an operation above 6 and at a length above 65,536.
+use input::Input;
 ghost use mathlib.Core.Path.{_≡_};
 ghost use Prim.Native.Nat.{_*_};
 ghost use lib.ListN.{length};
@@ -34,7 +35,11 @@ const CALLS: u64 = 1 << 63;
 
 // Fills a buffer from standard input; whether all of it was there.
 fn fill(s: &mut [u8]) -> bool {
-    io::read_full(0, s) == s.len()
+    let read = input::read_all(0, s);
+    match read {
+        Input::Read(count) => count == s.len(),
+        Input::Failed => false,
+    }
 }
 
 // Writes to standard output; whether that could be done.

@@ -5,19 +5,37 @@ pub mod replay;
 pub mod stored;
 
 use std::io::{ErrorKind, Write};
-use std::path::Path;
+use std::path::{Path, PathBuf};
 use std::process::{Child, Command, Stdio};
 use std::thread;
 
-/// Starts a program with pipes for standard input and output.
-fn start(program: &str) -> Child {
-    let folder = Path::new(env!("CARGO_MANIFEST_DIR")).join("../../target/bin");
-    let path = folder.join(program);
+/// Where a program is.
+pub fn path(program: &str) -> PathBuf {
+    Path::new(env!("CARGO_MANIFEST_DIR"))
+        .join("../../target/bin")
+        .join(program)
+}
+
+/// Starts a program with this standard input and a pipe for standard output.
+pub fn start_on(program: &str, stdin: impl Into<Stdio>) -> Child {
+    let path = path(program);
     Command::new(&path)
-        .stdin(Stdio::piped())
+        .stdin(stdin)
         .stdout(Stdio::piped())
         .spawn()
         .unwrap_or_else(|error| panic!("{}: {error}; `rt check` builds it", path.display()))
+}
+
+/// Starts a program with pipes for standard input and output.
+fn start(program: &str) -> Child {
+    start_on(program, Stdio::piped())
+}
+
+/// What a running program writes to standard output until it ends.
+pub fn output(program: &str, child: Child) -> Vec<u8> {
+    let output = child.wait_with_output().expect("a child that ends");
+    assert!(output.status.success(), "{program}: {}", output.status);
+    output.stdout
 }
 
 /// What a program writes to standard output for these bytes of standard input, handed over in
@@ -35,8 +53,7 @@ pub fn run(program: &str, input: &[u8], piece: usize) -> Vec<u8> {
             }
         }
     });
-    let output = child.wait_with_output().expect("a child that ends");
+    let printed = output(program, child);
     writer.join().expect("the input is written");
-    assert!(output.status.success(), "{program}: {}", output.status);
-    output.stdout
+    printed
 }

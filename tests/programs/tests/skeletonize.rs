@@ -49,7 +49,7 @@ fn cases_f_and_m() {
 }
 
 #[test]
-fn closed_short_and_long_input() {
+fn empty_short_and_long_input() {
     for length in 0..6 {
         assert_eq!(
             run("skeletonize", &vec![1; length], 64),

@@ -8,7 +8,7 @@ mod sound;
 
 pub use damage::{Damage, DAMAGES};
 pub use refused::{accepted, damaged, Damaged};
-pub use settled::{settled, Settled};
+pub use settled::{settled, shortened_at_a_cut, Settled};
 pub use sound::{cut_or_n, element, element_of, image, image_of, labels, labels_of, mask, side};
 pub use sound::{ImageKind, LabelsKind, IMAGE_KINDS, LABELS_KINDS};
 

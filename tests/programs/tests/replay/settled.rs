@@ -1,8 +1,9 @@
-//! The cases A to M of 01, from the table that the second program is held to.
+//! The cases A to M of 01, from the table that the second program is held to, and what a cut
+//! makes of shortened labels.
 
 use programs::format::{Message, Reply};
 use programs::replay::Replay;
-use reference::cases::{settled, Call};
+use reference::cases::{settled, shortened_at_a_cut, Call};
 use reference::drawn::{draw, image};
 use std::collections::BTreeSet;
 
@@ -42,5 +43,17 @@ fn case_j_in_steps() {
             .for_each(|(byte, hit)| *byte &= !hit);
     }
     assert_eq!(draw(w, &block), "101/111/111");
+    replay.end();
+}
+
+/// At cut 2 the labels of an image give 15 points, its opening by 2B, and shortened 14.
+#[test]
+fn shortened_labels_at_a_cut_are_not_the_opening() {
+    let mut replay = Replay::start();
+    for settled in shortened_at_a_cut() {
+        let reply = replay.call(&Message::from(&settled.call));
+        let wanted = Reply::new(&settled.answer, &settled.after);
+        assert_eq!(reply, wanted, "{:?}", settled.call);
+    }
     replay.end();
 }

@@ -1,4 +1,5 @@
-//! The cases A to M of 01, sentence by sentence: expected values are the document's.
+//! The cases A to M of 01, sentence by sentence: expected values are the document's. And one
+//! chain of calls beside them.
 
 use super::Call;
 use crate::drawn::{full, image, labels};
@@ -57,6 +58,29 @@ pub fn settled() -> Vec<Settled> {
         minimise('M', "000", 4096, Refused(2), ""),
     ]);
     settled
+}
+
+/// Not of 01: labels that are shortened, at a cut. At cut 2 the labels of an image give its
+/// opening by 2B. Shortened they give a point less: of those of size 2 one is dropped, which
+/// one of size 1 helps to cover. At cut 0 both give the image.
+#[rustfmt::skip]
+pub fn shortened_at_a_cut() -> Vec<Settled> {
+    // (-1,-1), (-1,0), the origin and (1,0).
+    let element = 14400;
+    let whole = "001100000000/001111000000/001111100000/000111111000/000000001110";
+    let opened = "001000000000/001110000000/001111100000/000111111000/000000000000";
+    let a_point_less = "001000000000/001110000000/001111100000/000111110000/000000000000";
+    let full = "000000000000/000020000000/000030000000/000003300000/000000000200";
+    let short = "000000000000/000020000000/000030000000/000003000000/000000000200";
+    vec![
+        decompose('-', whole, element, skeleton(5, 2), full),
+        minimise('-', full, element, Minimal(4), short),
+        reconstruct('-', full, element, 0, Area(20), whole),
+        reconstruct('-', short, element, 0, Area(20), whole),
+        open('-', whole, element, 2, Area(15), opened),
+        reconstruct('-', full, element, 2, Area(15), opened),
+        reconstruct('-', short, element, 2, Area(14), a_point_less),
+    ]
 }
 
 /// A call that writes these bytes, where it is not refused.
@@ -123,6 +147,20 @@ fn eroded(w: u32, h: u32, element: u32, image: Vec<u8>) -> Call {
 fn thinned(w: u32, h: u32, image: Vec<u8>) -> Call {
     let work = work(w, h);
     Call::Thin { w, h, image, work }
+}
+
+fn open(name: char, drawn: &str, element: u32, n: u32, answer: Answer, written: &str) -> Settled {
+    let (w, h, bytes) = image(drawn);
+    let call = Call::Open {
+        w,
+        h,
+        element,
+        n,
+        out: lent(bytes.len()),
+        image: bytes,
+        work: work(w, h),
+    };
+    case(name, call, answer, &image(written).2)
 }
 
 fn decompose(name: char, drawn: &str, element: u32, answer: Answer, written: &str) -> Settled {

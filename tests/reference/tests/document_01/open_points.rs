@@ -2,6 +2,7 @@
 
 use crate::calls;
 use crate::plain::{self, Points};
+use reference::cases::{run, shortened_at_a_cut};
 use reference::drawn::{draw, draw_labels, full, image, labels};
 use reference::Answer::*;
 use reference::{RIGHT, SQUARE};
@@ -124,4 +125,12 @@ fn wild_labels_are_minimised_by_the_same_walk() {
     );
     let (_, image) = calls::reconstruct(5, 1, RIGHT, 0, &minimal);
     assert_eq!(draw(5, &image), "11111");
+}
+
+/// Labels of an image at a cut are its opening; shortened ones need not be.
+#[test]
+fn shortened_labels_at_a_cut_are_not_the_opening() {
+    for s in shortened_at_a_cut() {
+        assert_eq!(run(&s.call), (s.answer, s.after), "{:?}", s.call);
+    }
 }
