@@ -30,9 +30,9 @@ use Rattle.morphology.proofs.CoverLaws.{size-zero}
 use Rattle.morphology.proofs.ElementLaws.{element}
 use Rattle.morphology.proofs.FrameLaws.{OnFrame}
 use Rattle.morphology.proofs.ImageLaws.{bytes-pack, clean-pack, image-on, image-pack, length-pack, pack-image}
-use Rattle.morphology.proofs.LabelLaws.{bytes-raster, length-raster}
+use Rattle.morphology.proofs.LabelLaws.{labels-raster, length-raster}
 use Rattle.morphology.proofs.MorphologyLaws.{open-zero}
-use Rattle.morphology.proofs.RefusalLaws.{T-of-not, decompose-passes, false-of, first-out, good, image-passes, reconstruct-passes, unless-in, unless-zero}
+use Rattle.morphology.proofs.RefusalLaws.{T-of-not, decompose-passes, false-of, first-out, good, image-passes, reconstruct-passes, side-label, unless-in, unless-zero}
 use Rattle.morphology.proofs.SkeletonLaws.{label-above, label-formula, label-le, open-on, reconstruction-open, skeleton-tame}
 use Rattle.morphology.proofs.TestLaws.{and-l, and-r}
 use Rattle.morphology.proofs.ThinningLaws.{less, thin-enough, thin-idle}
@@ -112,10 +112,10 @@ pub closed : (W H e : ℕ) (X : Point → Bool) → T (isSide W && isSide H) →
 unfolding skeletonLabels
 closed W H e X sides on = record {
   image = record { passes = image-passes W H (pack W H X) (record { sides = sides; size = length-pack W H X; clean = clean-pack W H X on }); bytes = bytes-pack W H X };
-  labels = bytes-raster W H (skeletonFunction (offsets e) X (max W H)) (λ p.
+  labels = labels-raster W H (skeletonFunction (offsets e) X (max W H)) (λ p.
       let w = and-r (leb 1 W) (leb W maxSide) (and-l (isSide W) (isSide H) sides) in
       let h = and-r (leb 1 H) (leb H maxSide) (and-r (isSide W) (isSide H) sides) in
-      omega (arith, leb→le W maxSide w, leb→le H maxSide h, label-le (offsets e) X (max W H) p));
+      side-label _ (omega (arith, leb→le W maxSide w, leb→le H maxSide h, label-le (offsets e) X (max W H) p)));
 }
 
 -- ---- demand 3

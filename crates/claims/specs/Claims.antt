@@ -13,7 +13,7 @@ use Rattle.morphology.specs.Answers.{Outcome, foreground, outcome, output, refu
 use Rattle.morphology.specs.Cases.{Settled}
 use Rattle.morphology.specs.Element.{isElement, offsets}
 use Rattle.morphology.specs.Image.{imageSet, pack, planeBytes}
-use Rattle.morphology.specs.Labels.{area}
+use Rattle.morphology.specs.Labels.{area, areLabels}
 use Rattle.morphology.specs.Morphology.{opening, times}
 use Rattle.morphology.specs.Operations.{cleared, decomposeRows, decomposed, foldRows, hitRows, minimiseRows, minimised, reconstructRows, reconstructed, thinRows}
 use Rattle.morphology.specs.Point.{Point, at}
@@ -93,10 +93,10 @@ RebuildIsExact =
 abbrev pub LabelsStay : Type 0
 LabelsStay = (W H e : ℕ) (image : List ℕ) (k : ℕ) → T (isElement e) → isWild W H (offsets e) k (skeletonLabels W H (offsets e) (imageSet W H image)) ≡ false
 
--- What is written is an image again, and its labels are bytes.
+-- What is written is an image again, and its labels fit the labels' type.
 pub record Closed (W H e : ℕ) (X : Point → Bool) : Type 0 where
   pub image : Image W H (pack W H X)
-  pub labels : T (areBytes (skeletonLabels W H (offsets e) X))
+  pub labels : T (areLabels (skeletonLabels W H (offsets e) X))
 
 -- ---- demand 3: a list of sieves
 

@@ -2,20 +2,20 @@
 use mathlib.Core.Bool.{Bool, _&&_, cond}
 use mathlib.Core.List.{List, List·Memᴰ}
 use mathlib.Core.Path.{_∙_, _≡_, ap, ap₂, subst, sym}
-use Prim.Native.Nat.{_%_, _*_, _+_, _/_, _<_, suc, zero, ℕ}
+use Prim.Native.Nat.{_%_, _*_, _+_, _/_, _<_, _≤_, suc, zero, ℕ}
 use native.Mathlib.Nat.{div-add-mod', div-lt-iff-lt-mul, mod-lt, mul-comm, mul-zero, not-suc-le-zero, zero-add, zero-lt-suc}
 use borrow.Author.Tests.{lt-ltb}
 use lib.Arith.{digits-div, digits-lt, digits-mod}
-use lib.Dec.{T, ltb→lt}
+use lib.Dec.{T, leb, le→leb, ltb→lt}
 use lib.IntN.{negsuc, pos, ℤ}
 use lib.ListN.{getD, length}
-use lib.Pow.{areBytes}
 use Rattle.morphology.specs.Image.{inside}
-use Rattle.morphology.specs.Labels.{labelAt, place, places, raster}
+use Rattle.morphology.specs.Labels.{areLabels, labelAt, maxLabel, place, places, raster}
 use Rattle.morphology.specs.Lists.{tabulate}
 use Rattle.morphology.specs.Point.{Point, at}
 use Rattle.morphology.proofs.FrameLaws.{OnFrame}
-use Rattle.morphology.proofs.ImageLaws.{bytes-row, getD-row, length-row, mem-row, row-mem}
+use Rattle.morphology.proofs.ImageLaws.{getD-row, length-row, mem-row, row-mem}
+use Rattle.morphology.proofs.TestLaws.{all-in}
 
 pub place-at : (W x y : ℕ) → x < W → place W (y * W + x) ≡ at (pos x) (pos y)
 place-at W x y h = ap₂ (λ (u v : ℕ). at (pos u) (pos v)) (digits-mod y h) (digits-div y h)
@@ -81,6 +81,8 @@ on-places W H X on z t = by (z .x) (z .y) (on .across z t) (on .down z t)
     by (pos x) (negsuc y) tx ty = absurd ty
     by (negsuc x) y tx ty = absurd tx
 
-pub bytes-raster : (W H : ℕ) (f : Point → ℕ) → ((p : Point) → f p < 256) → T (areBytes (raster W H f))
+pub labels-raster : (W H : ℕ) (f : Point → ℕ) → ((p : Point) → f p ≤ maxLabel) → T (areLabels (raster W H f))
 unfolding raster
-bytes-raster W H f h = bytes-row (λ i. f (place W i)) 0 (W * H) (λ i. h (place W i))
+labels-raster W H f h = all-in (λ v. leb v maxLabel) (raster W H f) (λ v i.
+    let r = row-mem (λ i. f (place W i)) 0 (W * H) i in
+    subst (λ (n : ℕ). T (leb n maxLabel)) (sym (r .2)) (le→leb _ maxLabel (h _)))

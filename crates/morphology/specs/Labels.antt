@@ -3,11 +3,19 @@
 use mathlib.Core.Bool.{Bool, _&&_, cond, not}
 use mathlib.Core.List.{List}
 use Prim.Native.Nat.{_%_, _*_, _+_, _/_, ℕ}
-use lib.Dec.{eqb, ltb}
+use lib.Dec.{eqb, leb, ltb}
 use lib.IntN.{negsuc, pos, ℤ}
 use lib.ListN.{getD}
-use Rattle.morphology.specs.Lists.{countOf, tabulate}
+use Rattle.morphology.specs.Lists.{countOf, everyOf, tabulate}
 use Rattle.morphology.specs.Point.{Point, at}
+
+-- the largest label of the buffers' type
+abbrev pub maxLabel : ℕ
+maxLabel = 255
+
+-- labels that it holds
+abbrev pub areLabels : List ℕ → Bool
+areLabels m = everyOf (λ v. leb v maxLabel) m
 
 -- the frame's place i, row after row
 abbrev pub place : ℕ → ℕ → Point
