@@ -48,7 +48,7 @@ fn gather(
     if n <= cut {
         return;
     }
-    let mut tops = [0u8; 1024];
+    let mut tops = [0u8; raster::MAX_FRAME];
     points::row_tops(labels, w, h, &mut tops);
     while cut < n {
         grow(w, h, r, p, element, n as u8, labels, &mut tops, work);

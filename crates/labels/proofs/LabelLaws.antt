@@ -26,6 +26,7 @@ use Rattle.morphology.proofs.LabelLaws.{place-at}
 use Rattle.morphology.proofs.PlaneLaws.{area-last, area-le, area-start, area-turn, areaBelow}
 use Rattle.morphology.proofs.TestLaws.{all-out, upto, upto-out}
 use Rattle.planes.proofs.SetLaws.{row-pixel}
+use Rattle.raster.specs.Limits.{maxFrame}
 use Rattle.raster.specs.Rows.{rowBit}
 use Rattle.raster.proofs.ByteLaws.{below8, less-bit}
 use Rattle.raster.proofs.LoopLaws.{Mapped}
@@ -321,5 +322,5 @@ rows-same W H r q v s old y e hr hy he f =
         (row-same s ((y + j) * r) (q + (y + j) * r) r ((y + j) * W) W v old (omega arith) (row j (omega arith)))))
 
 -- few enough to count
-pub area-small : (W : ℕ) (S : Point → Bool) (y : ℕ) → W ≤ 1024 → y ≤ 1024 → area W y S ≤ 1048576
+pub area-small : (W : ℕ) (S : Point → Bool) (y : ℕ) → W ≤ maxFrame → y ≤ maxFrame → area W y S ≤ maxFrame * maxFrame
 area-small W S y hw hy = omega (arith, area-le W y S, mul-le-mul-right y hw)

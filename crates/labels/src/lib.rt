@@ -6,6 +6,7 @@ ghost use Prim.Native.Nat.{_+_, _*_, _/_, _<_, _≤_, ℕ};
 ghost use lib.ListN.{length};
 ghost use Rattle.morphology.specs.Image.{bitOf};
 ghost use Rattle.planes.specs.Frames.{Frame};
+ghost use Rattle.raster.specs.Limits.{maxFrame};
 ghost use Rattle.labels.specs.Labelled.{leftAt, lacking, RowLabelled, RowsLabelled, Labelled};
 
 // Whether pixel x of the eight of a byte is foreground.
@@ -54,7 +55,7 @@ fn label_byte(s: &[u8], a: usize, b: usize, at: usize, m: usize, v: u8, labels: 
 
 // The w labels from at on, of the rows at a and at b, by whole bytes and what is left of the last.
 fn label_bytes(s: &[u8], a: usize, b: usize, at: usize, w: usize, v: u8, labels: &mut [u8]) -> u32
-    requires { ⌜ (a + (w + 7) / 8 ≤ length (now s)) × (b + (w + 7) / 8 ≤ length (now s)) × (w ≤ 1024) × (at + w ≤ length (now labels)) ⌝ }
+    requires { ⌜ (a + (w + 7) / 8 ≤ length (now s)) × (b + (w + 7) / 8 ≤ length (now s)) × (w ≤ maxFrame) × (at + w ≤ length (now labels)) ⌝ }
     ensures { λ n. ⌜ RowLabelled at w (leftAt (now (s .entry)) a b) v (now (labels .entry)) (now (labels .exit)) n ⌝ }
 {
     let mut n: u32 = 0;
@@ -71,7 +72,7 @@ fn label_bytes(s: &[u8], a: usize, b: usize, at: usize, w: usize, v: u8, labels:
 
 // Row y of the first plane and of the plane at q; passed over where they are the same.
 fn label_line(s: &[u8], w: usize, r: usize, q: usize, y: usize, v: u8, labels: &mut [u8]) -> u32
-    requires { ⌜ (r ≡ (w + 7) / 8) × (w ≤ 1024) × (y * r + r ≤ q) × (q + y * r + r ≤ length (now s)) × (y * w + w ≤ length (now labels)) ⌝ }
+    requires { ⌜ (r ≡ (w + 7) / 8) × (w ≤ maxFrame) × (y * r + r ≤ q) × (q + y * r + r ≤ length (now s)) × (y * w + w ≤ length (now labels)) ⌝ }
     ensures { λ n. ⌜ RowLabelled (y * w) w (leftAt (now (s .entry)) (y * r) (q + y * r)) v (now (labels .entry)) (now (labels .exit)) n ⌝ }
 {
     let a = y * r;

@@ -9,7 +9,7 @@ use lib.ListN.{drop, length, length-append, length-take, take}
 use Rattle.morphology.specs.Lists.{greatest}
 use Rattle.points.proofs.PointLaws.{greatest-drop, greatest-take}
 use Rattle.listing.specs.Appended.{Room}
-use Rattle.listing.specs.Printed.{longest, refusalText, skeletonText}
+use Rattle.listing.specs.Printed.{longest, refusalText, side, skeletonText}
 use Rattle.listing.specs.Text.{after, decimal, line, lineFeed, mapText, space, spaced}
 use Rattle.listing.proofs.AnswerLaws.{counts, counts-pieces, refusal-pieces, skeleton-pieces}
 use Rattle.listing.proofs.AppendLaws.{size-of}
@@ -65,14 +65,14 @@ refusal-length n l = omega (arith, ap length (refusal-pieces n), length-append (
 pub refusal-room : {n : ℕ} {out : List ℕ} → n < 10 → length out ≡ longest → Room (refusalText n) 0 out
 refusal-room {n} {out} l e = record { fits = omega (arith, refusal-length n l) }
 
--- the largest output: every number of the first line with its most digits, and 255 times 255 labels
-pub skeleton-length : (W H points : ℕ) (largest m : List ℕ) → 0 < W → W ≤ 255 → H ≤ 255 → points < 100000 → length largest ≤ 3 → greatest m < 1000
+-- the largest output: every number of the first line with its most digits, and a label for each place of the largest image
+pub skeleton-length : (W H points : ℕ) (largest m : List ℕ) → 0 < W → W ≤ side → H ≤ side → points < 100000 → length largest ≤ 3 → greatest m < 1000
     → length (skeletonText W H points largest m) ≤ longest
 skeleton-length W H points largest m w a b p s g =
     let c = three-digits W (omega arith) in
     let d = three-digits H (omega arith) in
     let e = five-digits points p in
-    let k : 4 * W ≤ 1020 = omega arith in
+    let k : 4 * W ≤ 4 * side = omega arith in
     omega (
       arith,
       ap length (skeleton-pieces W H points largest m),

@@ -26,23 +26,23 @@ use Rattle.morphology.proofs.SkeletonLaws.{label-le}
 use Rattle.morphology.proofs.TestLaws.{and-l, and-r}
 use Rattle.refusals.proofs.SideLaws.{sides-of}
 use Rattle.numbers.specs.Numbers.{numberAt}
-use Rattle.listing.specs.Printed.{answerText, enough, longest, noSize, outcomeText, printed, refusalText, taken}
+use Rattle.listing.specs.Printed.{answerText, enough, longest, noSize, outcomeText, printed, refusalText, side, sideBytes, taken}
 use Rattle.listing.specs.Text.{decimal}
 use Rattle.listing.proofs.LengthLaws.{refusal-length, skeleton-length, three-digits}
 
 -- ---- the sizes of an image whose sides are bytes
 
 pub record Sizes (W H : ℕ) : Type 0 where
-  pub across : W ≤ 255
-  pub down : H ≤ 255
-  pub places : W * H ≤ 65025
-  pub bytes : H * ((W + 7) / 8) ≤ 8160
+  pub across : W ≤ side
+  pub down : H ≤ side
+  pub places : W * H ≤ side * side
+  pub bytes : H * ((W + 7) / 8) ≤ side * sideBytes
 
 pub sizes : (W H : ℕ) → W < 256 → H < 256 → Sizes W H
 sizes W H a b =
-    let w : W ≤ 255 = omega arith in
-    let h : H ≤ 255 = omega arith in
-    let r : (W + 7) / 8 ≤ 32 = omega arith in
+    let w : W ≤ side = omega arith in
+    let h : H ≤ side = omega arith in
+    let r : (W + 7) / 8 ≤ sideBytes = omega arith in
     record { across = w; down = h; places = mul-le-mul w h; bytes = mul-le-mul h r }
 
 pub plane-is : (W H : ℕ) → planeBytes W H ≡ H * ((W + 7) / 8)

@@ -1,7 +1,7 @@
 -- The program of 01: what it prints for the bytes that it reads. Definitions only; proofs/PrintedLaws.antt has the laws.
 use mathlib.Core.Bool.{cond}
 use mathlib.Core.List.{List, [], _++_, _∷_}
-use Prim.Native.Nat.{_*_, _+_, ℕ}
+use Prim.Native.Nat.{_*_, _+_, _/_, ℕ}
 use lib.Dec.{ltb}
 use lib.ListN.{drop, getD, length, replicate}
 use Rattle.morphology.specs.Answers.{Answer, Outcome, output}
@@ -49,10 +49,17 @@ printed input =
     let H = getD input 1 0 in
     cond (ltb (length input) 6) (refusalText 3) (outcomeText W H (taken W H (numberAt input 2) (drop 6 input)))
 
--- the largest output (`printed-fits`): "255 255 65025 254" and 255 times 255 labels of three digits, each with what ends it
+-- the largest side, a byte, and the bytes of the longest row
+abbrev pub side : ℕ
+side = 255
+
+abbrev pub sideBytes : ℕ
+sideBytes = (side + 7) / 8
+
+-- the largest output (`printed-fits`): "255 255 65025 254" and labels of three digits, each with what ends it
 abbrev pub longest : ℕ
-longest = 18 + 255 * 255 * 4
+longest = 18 + side * side * 4
 
 -- bytes that are enough to read: one more than the longest input has (`printed-enough`)
 abbrev pub enough : ℕ
-enough = 6 + 255 * 32 + 1
+enough = 6 + side * sideBytes + 1

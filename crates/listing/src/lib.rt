@@ -7,12 +7,12 @@ ghost use Prim.Native.Nat.{_+_, _*_};
 ghost use lib.ListN.{length, replicate};
 ghost use Rattle.morphology.specs.Image.{planeBytes};
 ghost use Rattle.listing.specs.Appended.{Appended, Listed, Room};
-ghost use Rattle.listing.specs.Printed.{longest, outcomeText, printed, taken};
+ghost use Rattle.listing.specs.Printed.{longest, outcomeText, printed, side, sideBytes, taken};
 
-// The largest side, and the bytes of the longest row.
+// The largest side, a byte, and the bytes of the longest row.
 const SIDE: usize = 255;
 
-const STRIDE: usize = 32;
+const STRIDE: usize = (SIDE + 7) / 8;
 
 // Bytes to read: one more than the longest input has, which is then refused (`printed-enough`).
 pub const INPUT: usize = 6 + SIDE * STRIDE + 1;
@@ -47,7 +47,7 @@ fn list_image(
     work: &mut [u8],
     out: &mut [u8],
 ) -> usize
-    requires { ⌜ (now labels ≡ replicate 65025 0) × (now work ≡ replicate 24480 0) × (length (now out) ≡ longest) ⌝ }
+    requires { ⌜ (now labels ≡ replicate (side * side) 0) × (now work ≡ replicate (3 * (side * sideBytes)) 0) × (length (now out) ≡ longest) ⌝ }
     ensures { λ n. ⌜ Appended (outcomeText w h (taken w h element (now (image .entry)))) 0 n (now (out .entry)) (now (out .exit)) ⌝ }
 {
     let places = w as usize * (h as usize);
@@ -65,7 +65,7 @@ fn list_image(
 
 // The input listed, with labels and work for the largest image.
 fn list_bytes(input: &[u8], labels: &mut [u8], work: &mut [u8], out: &mut [u8]) -> usize
-    requires { ⌜ (now labels ≡ replicate 65025 0) × (now work ≡ replicate 24480 0) × (length (now out) ≡ longest) ⌝ }
+    requires { ⌜ (now labels ≡ replicate (side * side) 0) × (now work ≡ replicate (3 * (side * sideBytes)) 0) × (length (now out) ≡ longest) ⌝ }
     ensures { λ n. ⌜ Appended (printed (now (input .entry))) 0 n (now (out .entry)) (now (out .exit)) ⌝ }
 {
     if input.len() < 6 {

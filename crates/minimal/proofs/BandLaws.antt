@@ -12,6 +12,7 @@ use lib.ListN.{drop, getD, getD-replicate, length, length-drop, take}
 use lib.Seq.{getD-drop, getD-take, length-take-le}
 use Rattle.morphology.specs.Image.{stride}
 use Rattle.morphology.specs.Lists.{someOf}
+use Rattle.raster.specs.Limits.{maxFrame, maxStride}
 use Rattle.raster.specs.Rows.{rowBit}
 use Rattle.raster.proofs.RowLaws.{row-in}
 use Rattle.steps.proofs.StepLaws.{zeros-out}
@@ -92,8 +93,8 @@ module _ (W H r : ℕ) (g : Band) (s : List ℕ) (b : Banded W H r g s) where
 
   pub record Room (y : ℕ) : Type 0 where
     pub row : y * r + r ≤ length s
-    pub narrow : r ≤ 128
-    pub small : y * W ≤ 1048576
+    pub narrow : r ≤ maxStride
+    pub small : y * W ≤ maxFrame * maxFrame
 
   pub room : (y : ℕ) → y < H - g .under → Room y
   unfolding stride
@@ -102,7 +103,7 @@ module _ (W H r : ℕ) (g : Band) (s : List ℕ) (b : Banded W H r g s) where
       record {
         row = row-in y H r (length s) l (b .bytes);
         narrow = omega (arith, b .frame .row, b .frame .across);
-        small = let d : y ≤ 1024 = omega (arith, b .frame .down) in omega (arith, mul-le-mul-right W d, b .frame .across);
+        small = let d : y ≤ maxFrame = omega (arith, b .frame .down) in omega (arith, mul-le-mul-right W d, b .frame .across);
       }
 
   pub margins : (y : ℕ) → g .above ≤ y → y < H - g .under → Margins (y * r) r (g .left) (g .right) s

@@ -3,7 +3,7 @@ use mathlib.Core.Bool.{Bool, false}
 use mathlib.Core.List.{List, [], _++_, _∷_}
 use mathlib.Core.Path.{_∙_, _≡_, ap, ap₂, refl, subst, sym}
 use Prim.Native.Nat.{_*_, _+_, _/_, _<_, _≤_, suc, zero-le, ℕ}
-use native.Mathlib.Nat.{mul-comm, mul-le-mul-right, mul-pos}
+use native.Mathlib.Nat.{mul-comm, mul-le-mul, mul-pos}
 use native.Mathlib.Omega.{arith}
 use borrow.Author.Tests.{ltb-false}
 use lib.Dec.{T}
@@ -11,17 +11,18 @@ use lib.ListN.{drop, getD, length, replicate}
 use lib.Seq.{drop-drop}
 use Rattle.morphology.specs.Answers.{Outcome, minimal, outcome, refused}
 use Rattle.morphology.specs.Element.{isElement, offsets}
-use Rattle.morphology.specs.Image.{planeBytes, stride}
-use Rattle.morphology.specs.Labels.{place, pointsOf}
+use Rattle.morphology.specs.Image.{planeBytes}
+use Rattle.morphology.specs.Labels.{maxLabel, place, pointsOf}
 use Rattle.morphology.specs.Lists.{greatest}
 use Rattle.morphology.specs.Minimal.{minimalLabels}
 use Rattle.morphology.specs.Operations.{cleared, minimiseRows, minimised, shortens}
-use Rattle.morphology.specs.Refusals.{Row, firstRefusal, isWild, notPlaces, row1, row2, row3, row5, shortWork, unless}
+use Rattle.morphology.specs.Refusals.{Row, firstRefusal, isWild, maxSide, notPlaces, row1, row2, row3, row5, shortWork, unless}
 use Rattle.morphology.proofs.ElementLaws.{element}
 use Rattle.morphology.proofs.LabelLaws.{labelAt-place}
 use Rattle.morphology.proofs.ReconstructLaws.{kept-on}
 use Rattle.morphology.proofs.RefusalLaws.{T-of-not, first-out, fits-plane, three-out, unless-in, unless-refused}
-use Rattle.refusals.proofs.SideLaws.{sides-of}
+use Rattle.refusals.proofs.SideLaws.{sides-frame, sides-of}
+use Rattle.raster.specs.Limits.{maxFrame}
 use Rattle.steps.specs.Steps.{Sheet}
 use Rattle.steps.proofs.StepLaws.{sheet-bytes}
 use Rattle.minimal.specs.Minimised.{Passed, Shortened}
@@ -64,13 +65,13 @@ module _ (W H e : ℕ) (m work c : List ℕ) where
       )
 
   -- and what rows 1, 2 and 3 let pass
-  pub shaped : firstRefusal shapeRows ≡ 0 → (W ≤ 1024) × (length m ≡ W * H) × T (isElement e)
+  pub shaped : firstRefusal shapeRows ≡ 0 → (W ≤ maxFrame) × (length m ≡ W * H) × T (isElement e)
   shaped z =
       let r1 = first-out 1 _ _ tt z in
       let r2 = first-out 2 _ _ tt (r1 .1) in
       let r3 = first-out 3 _ _ tt (r2 .1) in
       let l = three-out (notPlaces W H m) (shortWork W H work) (notPlaces W H c) (r3 .0) in
-      (omega (arith, sides-of W H (r1 .0) .across), fits-plane (length m) (W * H) (l .0), T-of-not (isElement e) (r2 .0))
+      (sides-frame (sides-of W H (r1 .0)) .across, fits-plane (length m) (W * H) (l .0), T-of-not (isElement e) (r2 .0))
 
   pub passed : firstRefusal (minimiseRows W H e m work c) ≡ 0 → Passed W H e m work c
   passed z = let s = passed-by (row5 W H (offsets e) 0 m ∷ []) z in s .0 (first-out 5 _ _ tt (s .1) .0)
@@ -79,11 +80,10 @@ module _ (W H e : ℕ) (m work c : List ℕ) where
 
 module _ (W H e : ℕ) (m w c : List ℕ) (d : Passed W H e m w c) where
   pub passed-sheet : Sheet W H ((W + 7) / 8) (H * ((W + 7) / 8))
-  unfolding stride
-  passed-sheet = record { frame = record { wide = d .wide; across = omega (arith, d .across); down = omega (arith, d .down); row = refl }; plane = refl }
+  passed-sheet = record { frame = sides-frame (record { wide = d .wide; across = d .across; high = d .high; down = d .down }); plane = refl }
 
-  pub passed-few : W * H ≤ 65025
-  passed-few = omega (arith, mul-le-mul-right H (d .across), d .down)
+  pub passed-few : W * H ≤ maxSide * maxSide
+  passed-few = mul-le-mul (d .across) (d .down)
 
   pub passed-some : 0 < length m
   passed-some = subst (λ (n : ℕ). 0 < n) (sym (d .places)) (mul-pos (d .wide) (d .high))
@@ -95,7 +95,7 @@ module _ (W H e : ℕ) (m w c : List ℕ) (d : Passed W H e m w c) where
     stays = λ i n h q b k. kept-on W H (offsets e) (element e (d .element)) m 0 (d .stays) (place W i) n (labelAt-place W H m i h ∙ q) zero-le k;
   }
 
-  pub passed-begun : (a : ℕ) (u : List ℕ) → a < length m → getD m a 0 ≡ greatest m → getD m a 0 < 256 → length u ≡ length w
+  pub passed-begun : (a : ℕ) (u : List ℕ) → a < length m → getD m a 0 ≡ greatest m → getD m a 0 ≤ maxLabel → length u ≡ length w
       → Begun W H ((W + 7) / 8) (H * ((W + 7) / 8)) e a (getD m a 0) m u
   passed-begun a u h g b l = record {
     sheet = passed-sheet;
@@ -105,7 +105,7 @@ module _ (W H e : ℕ) (m w c : List ℕ) (d : Passed W H e m w c) where
     place = subst (λ (n : ℕ). a < n) (d .places) h;
     label = refl;
     largest = sym g;
-    byte = omega arith;
+    fits = b;
   }
 
   -- ---- how it ends

@@ -23,9 +23,13 @@ abbrev pub counted : Bool → Bool → ℕ → ℕ
 counted true b v = v + cond b 1 0
 counted false b v = v - cond b 1 0
 
--- a 16-bit counter that can take one
+-- the largest number of the counters' type
+abbrev pub maxCount : ℕ
+maxCount = 65535
+
+-- a counter that can take one
 abbrev pub Free : Bool → ℕ → Type 0
-Free true v = v < 65535
+Free true v = v < maxCount
 Free false v = 0 < v
 
 -- each k of f, moved, is a counter that can take a count

@@ -7,10 +7,11 @@ use lib.Dec.{T, eqb, leb, ltb}
 use lib.ListN.{drop, getD, length}
 use Rattle.morphology.specs.Element.{isElement, offsets}
 use Rattle.morphology.specs.Image.{imageSet, isClean}
-use Rattle.morphology.specs.Labels.{raster}
+use Rattle.morphology.specs.Labels.{maxLabel, raster}
 use Rattle.morphology.specs.Lists.{countOf, greatest, upTo}
 use Rattle.morphology.specs.Minimal.{covers}
 use Rattle.morphology.specs.Point.{Point}
+use Rattle.morphology.specs.Refusals.{maxSide}
 use Rattle.steps.specs.Steps.{Sheet}
 use Rattle.minimal.specs.Covers.{AllStay, Stays, spread}
 
@@ -25,7 +26,7 @@ pub record Shape (W H r p : ℕ) (B : List Point) (n a : ℕ) (work : List ℕ) 
 -- a map whose points stay on the frame, and counters for it
 pub record Tame (W H : ℕ) (B : List Point) (m : List ℕ) : Type 0 where
   pub places : length m ≡ W * H
-  pub few : W * H ≤ 65025
+  pub few : W * H ≤ maxSide * maxSide
   pub stays : AllStay W H B m
 
 -- a map, a place a of its largest label, and work: minimisation can begin
@@ -37,7 +38,7 @@ pub record Begun (W H r p e a top : ℕ) (m work : List ℕ) : Type 0 where
   pub place : a < W * H
   pub label : getD m a 0 ≡ top
   pub largest : greatest m ≡ top
-  pub byte : top ≤ 255
+  pub fits : top ≤ maxLabel
 
 -- from its third plane on work is as it was
 pub record Left (p : ℕ) (old new : List ℕ) : Type 0 where

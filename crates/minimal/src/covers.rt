@@ -6,6 +6,7 @@ ghost use Prim.Native.Nat.{_+_, _*_, _-_, _<_, _≤_, _^_};
 ghost use lib.Dec.{T};
 ghost use lib.ListN.{length};
 ghost use Rattle.morphology.specs.Image.{bitOf};
+ghost use Rattle.raster.specs.Limits.{maxStride};
 ghost use Rattle.raster.specs.Rows.{rowBit};
 ghost use Rattle.minimal.specs.Bands.{Banded, Margins, inkAt};
 ghost use Rattle.minimal.specs.Moves.{below, hits, Within, counted, Free, Open, Moved, Twice, Tells};
@@ -79,7 +80,8 @@ fn move_row(
     a: usize,
     counters: &mut [u16],
 )
-    requires { ⌜ (at < 2 ^ 31) × (r ≤ 128) × (d + r ≤ length (now plane)) × Margins d r left right (now plane) × Open up (below (8 * r) (λ k. rowBit (now plane) (8 * d + k))) at a (now counters) ⌝ }
+    requires { ⌜ (at < 2 ^ 31) × (r ≤ maxStride) × (d + r ≤ length (now plane)) × Margins d r left right (now plane)
+        × Open up (below (8 * r) (λ k. rowBit (now plane) (8 * d + k))) at a (now counters) ⌝ }
     ensures { λ _. ⌜ Moved up (hits (below (8 * r) (λ k. rowBit (now (plane .entry)) (8 * d + k))) at a) (now (counters .entry)) (now (counters .exit)) ⌝ }
 {
     let mut j = left;
@@ -172,7 +174,8 @@ fn row_is_twice(
     a: usize,
     counters: &[u16],
 ) -> bool
-    requires { ⌜ (at < 2 ^ 31) × (r ≤ 128) × (d + r ≤ length (now plane)) × Margins d r left right (now plane) × Within (below (8 * r) (λ k. rowBit (now plane) (8 * d + k))) at a (length (now counters)) ⌝ }
+    requires { ⌜ (at < 2 ^ 31) × (r ≤ maxStride) × (d + r ≤ length (now plane)) × Margins d r left right (now plane)
+        × Within (below (8 * r) (λ k. rowBit (now plane) (8 * d + k))) at a (length (now counters)) ⌝ }
     ensures { λ t. ⌜ Tells t (Twice (below (8 * r) (λ k. rowBit (now (plane .entry)) (8 * d + k))) at a (now (counters .entry))) ⌝ }
 {
     let mut j = left;

@@ -1,9 +1,9 @@
 // Minimisation, "shortening" in 01: public.
-pub mod bands;
-pub mod covers;
-pub mod places;
-pub mod sizes;
-pub mod walks;
+mod bands;
+mod covers;
+mod places;
+mod sizes;
+mod walks;
 
 ghost use mathlib.Core.Path.{_≡_};
 ghost use mathlib.Core.List.{[], _∷_};

@@ -10,7 +10,7 @@ ghost use lib.Dec.{eqb};
 ghost use lib.ListN.{length, getD, replicate};
 ghost use Rattle.morphology.specs.Element.{offsets};
 ghost use Rattle.morphology.specs.Image.{imageSet, clip};
-ghost use Rattle.morphology.specs.Labels.{pointsOf};
+ghost use Rattle.morphology.specs.Labels.{maxLabel, pointsOf};
 ghost use Rattle.morphology.specs.Lists.{greatest};
 ghost use Rattle.morphology.specs.Morphology.{dilate};
 ghost use Rattle.planes.specs.Frames.{Frame};
@@ -54,7 +54,8 @@ fn count_size(
     work: &mut [u8],
     counters: &mut [u16],
 )
-    requires { ⌜ Shape w h r p (offsets element) n a (now work) × Tame w h (offsets element) (now labels) × (n < 255) × Counting w h (offsets element) (now labels) n 0 (now counters) ⌝ }
+    requires { ⌜ Shape w h r p (offsets element) n a (now work) × Tame w h (offsets element) (now labels) × (n < maxLabel)
+        × Counting w h (offsets element) (now labels) n 0 (now counters) ⌝ }
     ensures counters { λ _. ⌜ Counting w h (offsets element) (now (labels .entry)) (n + 1) 0 (now (counters .exit)) ⌝ }
     ensures work { λ _. ⌜ First w h p (clip w h (dilate (offsets element) (imageSet w h (now (work .entry))))) (now (work .entry)) (now (work .exit)) ⌝ }
 {

@@ -9,6 +9,7 @@ ghost use Prim.Native.Nat.{_+_, _*_, _<_, _≤_, _^_};
 ghost use lib.ListN.{length, getD};
 ghost use Rattle.morphology.specs.Element.{offsets};
 ghost use Rattle.morphology.specs.Image.{imageSet, clip};
+ghost use Rattle.morphology.specs.Labels.{maxLabel};
 ghost use Rattle.morphology.specs.Minimal.{minimalLabels};
 ghost use Rattle.morphology.specs.Morphology.{dilate};
 ghost use Rattle.steps.specs.Steps.{First};
@@ -57,7 +58,8 @@ fn walk_size(
     work: &mut [u8],
     counters: &mut [u16],
 )
-    requires { ⌜ Shape w h r p (offsets element) n a (now work) × Tame w h (offsets element) (now labels) × (n < 255) × (now counters ≡ counts w h (offsets element) (now labels)) ⌝ }
+    requires { ⌜ Shape w h r p (offsets element) n a (now work) × Tame w h (offsets element) (now labels) × (n < maxLabel)
+        × (now counters ≡ counts w h (offsets element) (now labels)) ⌝ }
     ensures walk { λ _. ⌜ Walked w h (offsets element) n (now (labels .entry)) (now (labels .exit)) (now (counters .exit)) ⌝ }
     ensures work { λ _. ⌜ First w h p (clip w h (dilate (offsets element) (imageSet w h (now (work .entry))))) (now (work .entry)) (now (work .exit)) ⌝ }
 {

@@ -9,13 +9,12 @@ use lib.Arith.{digits-div, digits-lt, digits-mod}
 use lib.Dec.{T, ltb→lt}
 use lib.IntN.{negsuc, pos, ℤ}
 use lib.ListN.{getD, length}
-use lib.Pow.{areBytes}
 use Rattle.morphology.specs.Image.{inside}
 use Rattle.morphology.specs.Labels.{labelAt, place, places, raster}
 use Rattle.morphology.specs.Lists.{tabulate}
 use Rattle.morphology.specs.Point.{Point, at}
 use Rattle.morphology.proofs.FrameLaws.{OnFrame}
-use Rattle.morphology.proofs.ImageLaws.{bytes-row, getD-row, length-row, mem-row, row-mem}
+use Rattle.morphology.proofs.ImageLaws.{getD-row, length-row, mem-row, row-mem}
 
 pub place-at : (W x y : ℕ) → x < W → place W (y * W + x) ≡ at (pos x) (pos y)
 place-at W x y h = ap₂ (λ (u v : ℕ). at (pos u) (pos v)) (digits-mod y h) (digits-div y h)
@@ -80,7 +79,3 @@ on-places W H X on z t = by (z .x) (z .y) (on .across z t) (on .down z t)
     by (pos x) (pos y) tx ty = in-places W H x y (ltb→lt x W tx) (ltb→lt y H ty)
     by (pos x) (negsuc y) tx ty = absurd ty
     by (negsuc x) y tx ty = absurd tx
-
-pub bytes-raster : (W H : ℕ) (f : Point → ℕ) → ((p : Point) → f p < 256) → T (areBytes (raster W H f))
-unfolding raster
-bytes-raster W H f h = bytes-row (λ i. f (place W i)) 0 (W * H) (λ i. h (place W i))

@@ -4,12 +4,14 @@ use mathlib.Core.List.{List, [], _++_, _∷_}
 use mathlib.Core.Path.{_∙_, _≡_, ap, ap₂, refl, subst, sym}
 use Prim.Native.Nat.{_*_, _≤_, suc, zero, ℕ}
 use native.Mathlib.Nat.{suc-ne-zero}
+use native.Mathlib.Omega.{arith}
 use borrow.Author.Tests.{eq-eqb, eqb-true, le-ltb, ne-eqb, not-false}
 use lib.Dec.{T, T-not, eqb, leb, leb→le}
 use lib.ListN.{length}
 use Rattle.morphology.specs.Answers.{Outcome, outcome, refused}
 use Rattle.morphology.specs.Element.{isElement, offsets}
 use Rattle.morphology.specs.Image.{isClean, planeBytes}
+use Rattle.morphology.specs.Labels.{maxLabel}
 use Rattle.morphology.specs.Lists.{everyOf, someOf}
 use Rattle.morphology.specs.Operations.{decomposeRows, reconstructRows}
 use Rattle.morphology.specs.Refusals.{Row, firstRefusal, imageRows, isSide, isWild, maxSide, notPlane, row3, unless}
@@ -36,6 +38,10 @@ T-of-not false e = subst T e tt
 pub false-of : (b : Bool) → (T b → ⊥) → b ≡ false
 false-of true f = absurd (f tt)
 false-of false f = refl
+
+-- a side is a label, so that every size below it has one
+pub side-label : (n : ℕ) → n ≤ maxSide → n ≤ maxLabel
+side-label n h = omega arith
 
 -- ---- the first row that holds
 

@@ -9,6 +9,10 @@ use lib.ListN.{getD}
 use Rattle.morphology.specs.Lists.{countOf, tabulate}
 use Rattle.morphology.specs.Point.{Point, at}
 
+-- the largest label of the buffers' type
+abbrev pub maxLabel : ℕ
+maxLabel = 255
+
 -- the frame's place i, row after row
 abbrev pub place : ℕ → ℕ → Point
 place W i = at (pos (i % W)) (pos (i / W))

@@ -43,7 +43,7 @@ isWild W H B k m = someOf (λ p. leaves W H B k p (labelAt W H m p)) (places W H
 abbrev pub Row : Type 0
 Row = ℕ × Bool
 
--- W or H is 0 or above 255
+-- W or H is 0 or above the largest side
 abbrev pub row1 : ℕ → ℕ → Row
 row1 W H = (1, not (isSide W && isSide H))
 
@@ -67,7 +67,7 @@ row5 W H B k m = (5, isWild W H B k m)
 abbrev pub row6 : ℕ × ℕ → Row
 row6 m = (6, not (isMask m))
 
--- a cut, or the n of an erosion or opening, is above 255
+-- a cut, or the n of an erosion or opening, is above the largest side
 abbrev pub row7 : ℕ → Row
 row7 n = (7, ltb maxSide n)
 

@@ -20,6 +20,7 @@ use Rattle.morphology.proofs.ImageLaws.{Agree, clean-agree, clean-pack, clip-is
 use Rattle.morphology.proofs.MorphologyLaws.{erode-out, open-sub}
 use Rattle.morphology.proofs.PlaneLaws.{on-sub}
 use Rattle.morphology.proofs.PointLaws.{unit}
+use Rattle.raster.specs.Limits.{maxStride}
 use Rattle.raster.specs.Rows.{overwrite, rowBit}
 use Rattle.raster.proofs.PartLaws.{cut-bit, part-bytes, drop-overwrite, length-overwrite, overwrite-is, overwrite-rest}
 use Rattle.raster.proofs.RowLaws.{row-in}
@@ -30,7 +31,7 @@ use Rattle.planes.proofs.SetLaws.{near-image, neighbours-set, pack-pixe
 
 -- ---- frames
 
-pub frame-row : {w h r : ℕ} → Frame w h r → (w ≤ 8 * r) × (8 * r < w + 8) × (0 < r) × (r ≤ 128)
+pub frame-row : {w h r : ℕ} → Frame w h r → (w ≤ 8 * r) × (8 * r < w + 8) × (0 < r) × (r ≤ maxStride)
 unfolding stride
 frame-row {w} {h} {r} f =
     let a = f .wide in

@@ -6,10 +6,7 @@ use Prim.Native.Nat.{_≤_, ℕ}
 use Rattle.morphology.specs.Image.{stride}
 use Rattle.morphology.specs.Morphology.{dilate, erode}
 use Rattle.morphology.specs.Point.{Point}
-
--- the largest side that the row buffer serves
-abbrev pub maxFrame : ℕ
-maxFrame = 1024
+use Rattle.raster.specs.Limits.{maxFrame}
 
 -- w and h are sides, r is a row's bytes
 pub record Frame (w h r : ℕ) : Type 0 where

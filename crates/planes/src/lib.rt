@@ -7,6 +7,7 @@ ghost use lib.ListN.{length};
 ghost use Rattle.morphology.specs.Element.{offsets, bit};
 ghost use Rattle.morphology.specs.Image.{imageSet, pack, isClean, clip};
 ghost use Rattle.morphology.specs.Morphology.{erode, dilate, opening};
+ghost use Rattle.raster.specs.Limits.{maxFrame, maxStride};
 ghost use Rattle.raster.specs.Rows.{rowBit, overwrite};
 ghost use Rattle.strips.specs.Neighbours.{PlaneIs};
 ghost use Rattle.planes.specs.Frames.{Frame};
@@ -38,7 +39,7 @@ fn begin_plane(dilating: bool, work: &mut [u8], p: usize, r: usize, h: usize, el
 
 // Clears the padding of h rows at p.
 fn clear_rows(work: &mut [u8], p: usize, w: usize, r: usize, h: usize)
-    requires { ⌜ (p + h * r ≤ length (now work)) × (w ≤ 8 * r) × (8 * r < w + 8) × (0 < r) × (r ≤ 128) ⌝ }
+    requires { ⌜ (p + h * r ≤ length (now work)) × (w ≤ 8 * r) × (8 * r < w + 8) × (0 < r) × (r ≤ maxStride) ⌝ }
     ensures { λ _. ⌜ PlaneIs p r h (now (work .entry)) (now (work .exit)) (λ y x. rowBit (now (work .entry)) (8 * (p + y * r) + x) && ltb x w) ⌝ }
 {
     let mut y: usize = 0;
@@ -59,7 +60,7 @@ fn morph_plane(
     h: usize,
     element: u32,
 )
-    requires { ⌜ (h * r ≤ p) × (p + h * r ≤ length (now work)) × (w ≤ 8 * r) × (8 * r < w + 8) × (0 < r) × (r ≤ 128) × (h ≤ 1024) ⌝ }
+    requires { ⌜ (h * r ≤ p) × (p + h * r ≤ length (now work)) × (w ≤ 8 * r) × (8 * r < w + 8) × (0 < r) × (r ≤ maxStride) × (h ≤ maxFrame) ⌝ }
     ensures { λ _. ⌜ RowsTo dilating h p w r h element (now (work .entry)) (now (work .exit)) ⌝ }
 {
     let rest = begin_plane(dilating, work, p, r, h, element);

@@ -7,6 +7,7 @@ ghost use lib.ListN.{length};
 ghost use Rattle.morphology.specs.Image.{fromBits, isClean, pack};
 ghost use Rattle.morphology.specs.Lists.{greatest as greatestOf, someOf};
 ghost use Rattle.planes.specs.Frames.{Frame};
+ghost use Rattle.raster.specs.Limits.{maxFrame};
 ghost use Rattle.raster.specs.Rows.{Pixelwise, overwrite};
 ghost use Rattle.points.specs.Points.{greatestBelow, isLabel, Tops, withPoints};
 
@@ -56,7 +57,7 @@ fn greatest_below(row: &[u8], v: u8) -> u8
 
 // The largest label of each row.
 pub fn row_tops(labels: &[u8], w: usize, h: usize, tops: &mut [u8])
-    requires { ⌜ (w ≤ 1024) × (length (now labels) ≡ w * h) × (h ≤ length (now tops)) × (length (now tops) ≤ 1024) ⌝ }
+    requires { ⌜ (w ≤ maxFrame) × (length (now labels) ≡ w * h) × (h ≤ length (now tops)) × (length (now tops) ≤ maxFrame) ⌝ }
     ensures { λ _. ⌜ Tops w h (greatestOf (now (labels .entry))) (now (labels .entry)) (now (tops .exit)) ⌝ }
 {
     let mut y: usize = 0;

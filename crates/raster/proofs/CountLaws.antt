@@ -20,6 +20,7 @@ use Rattle.morphology.specs.Lists.{everyOf, someOf, tabulate, upTo}
 use Rattle.morphology.proofs.CountLaws.{all-suc}
 use Rattle.morphology.proofs.ImageLaws.{mem-row}
 use Rattle.morphology.proofs.TestLaws.{T-ext, all-out}
+use Rattle.raster.specs.Limits.{maxFrame, maxStride}
 use Rattle.raster.specs.Rows.{Summed, sumOf}
 use Rattle.raster.proofs.ByteLaws.{below8}
 use Rattle.raster.proofs.LoopLaws.{Mapped}
@@ -221,10 +222,10 @@ one-shl k h = below8 (λ (k : ℕ). (1 * 2 ^ k) % 2 ^ 8 ≡ 2 ^ k) refl refl ref
 pub one-shl-pos : (k : ℕ) → k < 8 → 0 < (1 * 2 ^ k) % 2 ^ 8
 one-shl-pos k h = subst (λ (n : ℕ). 0 < n) (sym (one-shl k h)) (pow-pos k)
 
-pub padding-lt : (W r : ℕ) → r ≡ stride W → 1 ≤ W → W ≤ 1024 → (r * 8 - W < 8) × (W ≤ r * 8) × (1 ≤ r) × (r ≤ 128)
+pub padding-lt : (W r : ℕ) → r ≡ stride W → 1 ≤ W → W ≤ maxFrame → (r * 8 - W < 8) × (W ≤ r * 8) × (1 ≤ r) × (r ≤ maxStride)
 unfolding stride
 padding-lt W r q h l = (omega arith, omega arith, omega arith, omega arith)
 
-pub clean-with : (W H r : ℕ) (s : List ℕ) → r ≡ stride W → 1 ≤ W → W ≤ 1024
+pub clean-with : (W H r : ℕ) (s : List ℕ) → r ≡ stride W → 1 ≤ W → W ≤ maxFrame
     → isClean W H s ≡ everyOf (lastClean s r ((1 * 2 ^ (r * 8 - W)) % 2 ^ 8)) (upTo H)
 clean-with W H r s q h l = clean-last W H r s q h ∙ ap (λ (m : ℕ). everyOf (lastClean s r m) (upTo H)) (sym (one-shl (r * 8 - W) (padding-lt W r q h l .0)))

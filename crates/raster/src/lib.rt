@@ -7,7 +7,13 @@ ghost use lib.Dec.{leb, ltb, eqb};
 ghost use lib.ListN.{length, getD, replicate, take, drop};
 ghost use Rattle.morphology.specs.Image.{stride, isClean, onesOf, pixel as pixelOf};
 ghost use Rattle.morphology.specs.Lists.{everyOf, someOf, upTo};
+ghost use Rattle.raster.specs.Limits.{maxFrame, maxStride};
 ghost use Rattle.raster.specs.Rows.{rowBit, readBit, exchangeByte, joinByte, Pixelwise, RowIs, RowJoined, Summed, sumOf};
+
+// The sides of the largest frame that the buffers serve, and the bytes of its rows.
+pub const MAX_FRAME: usize = 1024;
+
+pub const MAX_STRIDE: usize = MAX_FRAME / 8;
 
 // Two bytes joined pixel by pixel: by or in a dilation, by and in an erosion.
 fn join(dilating: bool, a: u8, b: u8) -> u8
@@ -69,7 +75,7 @@ pub fn clear_start(row: &mut [u8], k: u32)
 
 // Clears the padding of a row: its pixels from w on.
 pub fn clear_padding(row: &mut [u8], w: usize)
-    requires { ⌜ (w ≤ 8 * length (now row)) × (8 * length (now row) < w + 8) × (0 < length (now row)) × (length (now row) ≤ 128) ⌝ }
+    requires { ⌜ (w ≤ 8 * length (now row)) × (8 * length (now row) < w + 8) × (0 < length (now row)) × (length (now row) ≤ maxStride) ⌝ }
     ensures { λ _. ⌜ Pixelwise (now (row .entry)) (now (row .exit)) (λ x b. b && ltb x w) ⌝ }
 {
     let last = row.len() - 1;
@@ -256,7 +262,7 @@ pub fn same_rows(plane: &[u8], a: usize, b: usize, r: usize) -> bool
 
 // Whether an image of h rows of r bytes has no 1 in its padding.
 pub fn is_clean(s: &[u8], w: usize, h: usize, r: usize) -> bool
-    requires { ⌜ (r ≡ stride w) × (h * r ≤ length (now s)) × (1 ≤ w) × (w ≤ 1024) ⌝ }
+    requires { ⌜ (r ≡ stride w) × (h * r ≤ length (now s)) × (1 ≤ w) × (w ≤ maxFrame) ⌝ }
     ensures { λ b. ⌜ b ≡ isClean w h (now (s .entry)) ⌝ }
 {
     let m = 1u8 << ((r * 8 - w) as u32);

@@ -9,7 +9,7 @@ ghost use Rattle.morphology.specs.Image.{planeBytes};
 ghost use Rattle.morphology.specs.Refusals.{isSide, notPlane, notPlaces, shortWork, row1, row2, row3, row4, row7, firstRefusal};
 
 // The largest side, cut and n.
-const MAX_SIDE: u32 = 255;
+pub const MAX_SIDE: u32 = 255;
 
 const MASK_END: u32 = 33554432;
 

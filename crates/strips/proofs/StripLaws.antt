@@ -12,6 +12,7 @@ use lib.ListN.{List·getD-append, List·getD-eq-default, drop, getD, length, len
 use lib.Pow.{shr-shr}
 use lib.Seq.{length-take-le}
 use Rattle.morphology.specs.Element.{bit}
+use Rattle.raster.specs.Limits.{maxStride}
 use Rattle.raster.specs.Rows.{Pixelwise, RowIs, RowJoined, join, readBit, rowBit}
 use Rattle.raster.proofs.ByteLaws.{and-true}
 use Rattle.raster.proofs.PartLaws.{PartIs, cut-bit, part-back, part-bit, pixelwise-part}
@@ -36,14 +37,21 @@ rows-in a b n r l = omega (arith, add-mul a b r, mul-le-mul-right r l)
 pub rows-small : (m r k : ℕ) → 0 < r → m * r ≤ k → m ≤ k
 rows-small m r k h l = let q : m * 1 ≤ m * r = mul-le-mul-left m h in omega arith
 
+-- bytes of a strip, and of its rows with the two above and the two below
+abbrev pub stripBytes : ℕ
+stripBytes = 2048
+
+abbrev pub nearBytes : ℕ
+nearBytes = stripBytes + 4 * maxStride
+
 -- as many rows as a strip has room for, of q that are left
-pub strip-rows : (r q n : ℕ) → 0 < r → r ≤ 128 → 0 < q → n ≡ min (2048 / r) q → (0 < n) × (n ≤ q) × ((n + 4) * r ≤ 2560)
+pub strip-rows : (r q n : ℕ) → 0 < r → r ≤ maxStride → 0 < q → n ≡ min (stripBytes / r) q → (0 < n) × (n ≤ q) × ((n + 4) * r ≤ nearBytes)
 strip-rows r q n h k l e =
-    let m = min-less (2048 / r) q in
-    let some : 1 ≤ 2048 / r = le-div-iff-mul-le h .1 (omega arith) in
-    let most : n ≤ 2048 / r = omega arith in
-    let u : n * r ≤ 2048 / r * r = mul-le-mul-right r most in
-    (omega arith, omega arith, omega (arith, add-mul n 4 r, u, div-mul-le-self 2048 r))
+    let m = min-less (stripBytes / r) q in
+    let some : 1 ≤ stripBytes / r = le-div-iff-mul-le h .1 (omega arith) in
+    let most : n ≤ stripBytes / r = omega arith in
+    let u : n * r ≤ stripBytes / r * r = mul-le-mul-right r most in
+    (omega arith, omega arith, omega (arith, add-mul n 4 r, u, div-mul-le-self stripBytes r))
 
 -- a pixel of row a + b
 rows-at : (a b r x : ℕ) → 8 * (a * r) + (8 * (b * r) + x) ≡ 8 * ((a + b) * r) + x

@@ -1,21 +1,19 @@
 -- A step and a pass of thinning, in the image and the first plane of work.
-use mathlib.Core.Bool.{Bool, _&&_, not}
+use mathlib.Core.Bool.{Bool, _&&_, false, not, true}
 use mathlib.Core.List.{List, [], _++_, _∷_, map}
 use mathlib.Core.Path.{_∙_, _≡_, ap, ap₂, refl, subst, sym}
 use Prim.Native.Nat.{_*_, _+_, _<_, _≤_, suc, zero, ℕ}
-use native.Mathlib.Nat.{le-refl}
+use native.Mathlib.Nat.{le-refl, not-suc-le-zero}
 use native.Mathlib.Omega.{arith}
 use lib.Dec.{T}
-use lib.ListN.{drop, getD, length, length-append, length-drop, take}
+use lib.ListN.{drop, getD, length, length-append, length-drop, replicate, take}
 use lib.Seq.{drop-at, take-at}
 use Rattle.morphology.specs.Element.{isMask}
 use Rattle.morphology.specs.Image.{imageSet, isClean, pack, planeBytes, stride}
-use Rattle.morphology.specs.Lists.{tabulate}
 use Rattle.morphology.specs.Point.{Point}
 use Rattle.morphology.specs.Thinning.{golayL, hit, thinPass, thinStep}
 use Rattle.morphology.proofs.ImageLaws.{length-pack, pixel-pack-wide}
 use Rattle.morphology.proofs.PlaneLaws.{Plane}
-use Rattle.morphology.proofs.TestLaws.{upto-out}
 use Rattle.raster.specs.Rows.{Pixelwise, rowBit}
 use Rattle.raster.proofs.RowLaws.{row-in}
 use Rattle.planes.proofs.SetLaws.{pack-pixels, pixel-image, row-pixel}
@@ -83,20 +81,34 @@ module _ (W H p : ℕ) where
 abbrev maskOf : ℕ × ℕ → Mask
 maskOf m = record { fg = m .0; bg = m .1 }
 
+-- what stands past a table's end
+abbrev noMask : Mask
+noMask = maskOf (0, 0)
+
 -- its entry k, as the code reads it
 abbrev pub entry : ℕ → Mask
-entry k = getD (map maskOf golayL) k (record { fg = 0; bg = 0 })
+entry k = getD (map maskOf golayL) k noMask
 
 pub entry-is : (k : ℕ) → (entry k .fg, entry k .bg) ≡ getD golayL k (0, 0)
 entry-is k = go golayL k
   where
-    go : (ms : List (ℕ × ℕ)) (k : ℕ)
-        → (getD (map maskOf ms) k (record { fg = 0; bg = 0 }) .fg, getD (map maskOf ms) k (record { fg = 0; bg = 0 }) .bg) ≡ getD ms k (0, 0)
+    go : (ms : List (ℕ × ℕ)) (k : ℕ) → (getD (map maskOf ms) k noMask .fg, getD (map maskOf ms) k noMask .bg) ≡ getD ms k (0, 0)
     go [] k = refl
     go (m ∷ ms) zero = refl
     go (m ∷ ms) (suc k) = go ms k
 
--- row 6 takes it
-pub entry-mask : (k : ℕ) → k < 8 → T (isMask (entry k .fg, entry k .bg))
-unfolding isMask tabulate
-entry-mask k h = upto-out (λ k. isMask (entry k .fg, entry k .bg)) 8 k h tt
+-- row 6 takes a mask
+abbrev takes : Mask → Bool
+takes m = isMask (m .fg, m .bg)
+
+-- what row 6 says of entry k of any table, computed for all of its entries
+pub takes-entry : (ms : List Mask) (k : ℕ) → takes (getD ms k noMask) ≡ getD (map takes ms) k (takes noMask)
+takes-entry [] k = refl
+takes-entry (m ∷ ms) zero = refl
+takes-entry (m ∷ ms) (suc k) = takes-entry ms k
+
+-- it takes all n
+pub takes-all : (n k : ℕ) → k < n → T (getD (replicate n true) k false)
+takes-all zero k h = absurd (not-suc-le-zero h)
+takes-all (suc n) zero h = tt
+takes-all (suc n) (suc k) h = takes-all n k (omega arith)

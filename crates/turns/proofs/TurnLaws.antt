@@ -11,14 +11,14 @@ use lib.ListN.{drop, getD, getD-replicate, length, length-drop, replicate, take}
 use lib.Seq.{ext-getD, getD-drop, getD-take, length-take-le}
 use Rattle.morphology.specs.Element.{isElement, offsets}
 use Rattle.morphology.specs.Image.{imageSet, isClean, pack, planeBytes}
-use Rattle.morphology.specs.Labels.{area, place, pointsOf, raster}
+use Rattle.morphology.specs.Labels.{area, maxLabel, place, pointsOf, raster}
 use Rattle.morphology.specs.Lists.{countOf}
 use Rattle.morphology.specs.Morphology.{erode, opening, times}
 use Rattle.morphology.specs.Point.{Point}
 use Rattle.morphology.specs.Skeleton.{skeletonFunction, skeletonLabels, skeletonSubset}
 use Rattle.morphology.proofs.CountLaws.{count-le}
 use Rattle.morphology.proofs.DecomposeLaws.{eroded-on, function-turn, labels-none, points-turn, turns-lt, turns-outcome, turnsAnswer}
-use Rattle.morphology.proofs.RefusalLaws.{T-of-not, first-out, fits-plane, three-out, unless-in}
+use Rattle.morphology.proofs.RefusalLaws.{T-of-not, first-out, fits-plane, side-label, three-out, unless-in}
 use Rattle.refusals.proofs.SideLaws.{sides-frame, sides-of}
 use Rattle.morphology.specs.Answers.{Answer, outcome}
 use Rattle.morphology.specs.Operations.{cleared, decomposeRows, decomposed, labelled}
@@ -240,7 +240,7 @@ pub finished-as : {W H : ℕ} {B : List Point} {X Z : Point → Bool} {n : ℕ} 
 finished-as {W} {H} {B} {n = n} {labels = labels} {found = found} q f = subst (λ (S : Point → Bool). Finished W H B S n labels found) q f
 
 pub decompose-ready : (W H e : ℕ) (image labels work : List ℕ) → firstRefusal (decomposeRows W H e image labels work) ≡ 0
-    → Ready W H image image work × (W ≤ 255) × (H ≤ 255) × (length labels ≡ W * H) × T (isElement e)
+    → Ready W H image image work × (W ≤ maxLabel) × (H ≤ maxLabel) × (length labels ≡ W * H) × T (isElement e)
 decompose-ready W H e image labels work z =
     let P = planeBytes W H in
     let r1 = first-out 1 _ _ tt z in
@@ -256,8 +256,8 @@ decompose-ready W H e image labels work z =
         work = ltb-false (length work) (3 * P) (l .2);
         clean = T-of-not (isClean W H image) (r4 .0);
       },
-      s .across,
-      s .down,
+      side-label W (s .across),
+      side-label H (s .down),
       fits-plane (length labels) (W * H) (l .1),
       T-of-not (isElement e) (r2 .0),
     )

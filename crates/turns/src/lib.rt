@@ -7,6 +7,7 @@ ghost use lib.Dec.{T};
 ghost use lib.ListN.{length, replicate, take};
 ghost use Rattle.morphology.specs.Element.{offsets, isElement};
 ghost use Rattle.morphology.specs.Image.{imageSet, isClean};
+ghost use Rattle.morphology.specs.Labels.{maxLabel};
 ghost use Rattle.morphology.specs.Operations.{cleared};
 ghost use Rattle.planes.specs.Frames.{Frame};
 ghost use Rattle.steps.specs.Steps.{Sheet, Ready};
@@ -78,7 +79,8 @@ fn take_turns(
     labels: &mut [u8],
     work: &mut [u8],
 ) -> Found
-    requires { ⌜ Sheet w h r p × (w ≤ 255) × (h ≤ 255) × (3 * p ≤ length (now work)) × (now labels ≡ replicate (w * h) 0) × T (isElement element) × T (isClean w h (now work)) ⌝ }
+    requires { ⌜ Sheet w h r p × (w ≤ maxLabel) × (h ≤ maxLabel) × (3 * p ≤ length (now work)) × (now labels ≡ replicate (w * h) 0)
+        × T (isElement element) × T (isClean w h (now work)) ⌝ }
     ensures { λ f. ⌜ Took w h p (offsets element) (imageSet w h (now (work .entry))) (f .turns) (now (work .entry)) (now (work .exit)) (now (labels .exit)) (f .points) ⌝ }
 {
     let mut points: u32 = 0;
@@ -104,7 +106,7 @@ pub fn decompose_into(
     labels: &mut [u8],
     work: &mut [u8],
 ) -> Found
-    requires { ⌜ Ready w h (now image) (now image) (now work) × (w ≤ 255) × (h ≤ 255) × (length (now labels) ≡ w * h) × T (isElement element) ⌝ }
+    requires { ⌜ Ready w h (now image) (now image) (now work) × (w ≤ maxLabel) × (h ≤ maxLabel) × (length (now labels) ≡ w * h) × T (isElement element) ⌝ }
     ensures done { λ f. ⌜ Finished w h (offsets element) (imageSet w h (now (image .entry))) (f .turns) (now (labels .exit)) (f .points) ⌝ }
     ensures work { λ f. ⌜ now (work .exit) ≡ cleared w h (now (work .entry)) ⌝ }
 {

@@ -14,7 +14,7 @@ use lib.IntN.{pos}
 use lib.ListN.{drop, getD, length, length-drop, length-take, set, take}
 use lib.Seq.{getD-drop, getD-set-other, getD-set-same, getD-take, length-take-le}
 use Rattle.morphology.specs.Extent.{boxed, extent}
-use Rattle.morphology.specs.Labels.{labelAt, places}
+use Rattle.morphology.specs.Labels.{labelAt, maxLabel, places}
 use Rattle.morphology.specs.Lists.{greatest, someOf, upTo}
 use Rattle.morphology.specs.Point.{Point, at, origin}
 use Rattle.morphology.specs.Refusals.{isWild, leaves}
@@ -36,10 +36,10 @@ leb-agree : (a b c d : ℕ) → (a ≤ b → c ≤ d) → (c ≤ d → a ≤ b) 
 leb-agree a b c d f g = T-ext (λ t. le→leb c d (f (leb→le a b t))) (λ t. le→leb a b (g (leb→le c d t)))
 
 -- no step, steps of one, of two
-pub steps-none : (space step : ℕ) → step ≡ 0 → Room (λ n. leb (n * step) space) 255
+pub steps-none : (space step : ℕ) → step ≡ 0 → Room (λ n. leb (n * step) space) (maxLabel - 1)
 steps-none space step e n h =
     let q : n * step ≡ 0 = ap (λ (k : ℕ). n * k) e ∙ mul-zero n in
-    leb-agree n 255 (n * step) space (λ l. omega arith) (λ l. omega arith)
+    leb-agree n (maxLabel - 1) (n * step) space (λ l. omega arith) (λ l. omega arith)
 
 pub steps-one : (space step : ℕ) → step ≡ 1 → Room (λ n. leb (n * step) space) space
 steps-one space step e n h =
@@ -57,7 +57,7 @@ two-of (suc zero) h f g = absurd (g refl)
 two-of (suc (suc n)) h f g = omega arith
 
 -- the room before and after x
-both-sides : (W lo hi x a b : ℕ) → x < W → Room (λ n. leb (n * lo) x) a → Room (λ n. leb (n * hi) (W - 1 - x)) b → (n : ℕ) → n < 255
+both-sides : (W lo hi x a b : ℕ) → x < W → Room (λ n. leb (n * lo) x) a → Room (λ n. leb (n * hi) (W - 1 - x)) b → (n : ℕ) → n < maxLabel
     → (leb n a && leb n b) ≡ roomAt W lo hi x n
 both-sides W lo hi x a b h f g n l =
     ap₂ _&&_ (f n l) (g n l ∙ T-ext (λ t. let k = leb→le (n * hi) (W - 1 - x) t in lt→ltb (x + n * hi) W (omega arith)) (λ t. let k = ltb→lt (x + n * hi) W t in le→leb (n * hi) (W - 1 - x) (omega arith)))
@@ -72,8 +72,8 @@ room-forward W lo hi x a b h k f g n l =
 
 -- ---- the limit
 
--- a byte n + 1 is above l exactly when its point is kept and its size has no room
-pub limit-is : (k r l : ℕ) → ((n : ℕ) → n < 255 → l ≤ n → (k ≤ n) × (r < n)) → ((n : ℕ) → n < 255 → k ≤ n → r < n → l ≤ n) → Limit k (λ n. leb n r) l
+-- a label n + 1 is above l exactly when its point is kept and its size has no room
+pub limit-is : (k r l : ℕ) → ((n : ℕ) → n < maxLabel → l ≤ n → (k ≤ n) × (r < n)) → ((n : ℕ) → n < maxLabel → k ≤ n → r < n → l ≤ n) → Limit k (λ n. leb n r) l
 unfolding tooLarge
 limit-is k r l f g zero h = le-ltb l 0 (omega arith)
 limit-is k r l f g (suc n) h = by (decLe k n) (decLe n r)
@@ -92,7 +92,7 @@ limit-is k r l f g (suc n) h = by (decLe k n) (decLe n r)
         above (no q) = omega arith
 
 -- the limit of a coordinate
-pub limit-of : (k l : ℕ) (f g : ℕ → Bool) → ((n : ℕ) → n < 255 → f n ≡ g n) → Limit k f l → Limit k g l
+pub limit-of : (k l : ℕ) (f g : ℕ → Bool) → ((n : ℕ) → n < maxLabel → f n ≡ g n) → Limit k f l → Limit k g l
 unfolding tooLarge
 limit-of k l f g e m zero h = m 0 h
 limit-of k l f g e m (suc n) h = m (suc n) h ∙ ap (λ (t : Bool). leb k n && not t) (e n (omega arith))
@@ -175,7 +175,7 @@ wild-rows W H B k m = T-ext to of
 pub record Ready (W H : ℕ) (B : List Point) (k : ℕ) (m : List ℕ) (left right up down : ℕ) (limits : List ℕ) : Type 0 where
   pub shape : Element B
   pub size : length m ≡ W * H
-  pub bytes : (i : ℕ) → getD m i 0 < 256
+  pub labels : (i : ℕ) → getD m i 0 ≤ maxLabel
   pub leftward : left ≡ extent (measure true false) B
   pub rightward : right ≡ extent (measure true true) B
   pub upward : up ≡ extent (measure false false) B
@@ -212,7 +212,7 @@ module _ {W H : ℕ} {B : List Point} {k : ℕ} {m : List ℕ} {left right up do
     label-exact x hx =
         let v : ℕ = getD m (y * W + x) 0 in
         ap (λ (i : ℕ). over i (getD limits x 0) l) (getD-take (y * W + W - y * W) (drop (y * W) m) x 0 (omega arith) ∙ getD-drop (y * W) m x 0)
-        ∙ ap₂ _||_ (r .columns x hx v (r .bytes (y * W + x))) (row v (r .bytes (y * W + x)))
+        ∙ ap₂ _||_ (r .columns x hx v (r .labels (y * W + x))) (row v (r .labels (y * W + x)))
         ∙ ap₂ (λ (a b : ℕ). tooLarge k (roomAt W a b x) v || tooLarge k (roomAt H up down y) v) (r .leftward) (r .rightward)
         ∙ ap₂ (λ (a b : ℕ). tooLarge k (roomAt W (extent (measure true false) B) (extent (measure true true) B) x) v || tooLarge k (roomAt H a b y) v) (r .upward) (r .downward)
         ∙ sym (leaves-sides W H B (r .shape .centred) k x y v)

@@ -1,12 +1,13 @@
--- Row 5 of the table of refusals by bytes: a coordinate leaves room for sizes, and so for labels. Definitions only; proofs/WildLaws.antt has the laws.
+-- Row 5 of the table of refusals by labels: a coordinate leaves room for sizes, and so for labels. Definitions only; proofs/WildLaws.antt has the laws.
 use mathlib.Core.Bool.{Bool, _&&_, _||_, false, not}
 use mathlib.Core.List.{List}
 use mathlib.Core.Path.{_≡_}
-use Prim.Native.Nat.{_*_, _<_, suc, zero, ℕ}
+use Prim.Native.Nat.{_*_, _<_, _≤_, suc, zero, ℕ}
 use lib.Dec.{leb, ltb}
 use lib.IntN.{pos}
 use lib.ListN.{getD}
 use Rattle.morphology.specs.Extent.{fits}
+use Rattle.morphology.specs.Labels.{maxLabel}
 
 -- a point with this label is kept from cut k on, and its size has no room
 unfoldable pub tooLarge : ℕ → (ℕ → Bool) → ℕ → Bool
@@ -17,13 +18,13 @@ tooLarge k room (suc n) = leb k n && not (room n)
 abbrev pub roomAt : ℕ → ℕ → ℕ → ℕ → ℕ → Bool
 roomAt W lo hi x n = fits W (n * lo) (n * hi) (pos x)
 
--- of the sizes that a byte can label, those up to r have room
+-- of the sizes that have a label, those up to r have room
 abbrev pub Room : (ℕ → Bool) → ℕ → Type 0
-Room room r = (n : ℕ) → n < 255 → leb n r ≡ room n
+Room room r = (n : ℕ) → n < maxLabel → leb n r ≡ room n
 
--- of the labels that are bytes, those above l are too large
+-- of the labels, those above l are too large
 abbrev pub Limit : ℕ → (ℕ → Bool) → ℕ → Type 0
-Limit k room l = (v : ℕ) → v < 256 → ltb l v ≡ tooLarge k room v
+Limit k room l = (v : ℕ) → v ≤ maxLabel → ltb l v ≡ tooLarge k room v
 
 -- a limit for each x of a side
 abbrev pub Limits : ℕ → ℕ → ℕ → ℕ → List ℕ → Type 0

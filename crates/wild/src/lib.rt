@@ -6,15 +6,21 @@ ghost use lib.ListN.{length, getD};
 ghost use Rattle.morphology.specs.Element.{isElement, offsets};
 ghost use Rattle.morphology.specs.Lists.{someOf, upTo};
 ghost use Rattle.morphology.specs.Refusals.{isWild};
+ghost use Rattle.raster.specs.Limits.{maxFrame};
 ghost use Rattle.wild.specs.Wild.{roomAt, Room, Limit, Limits, over};
 
-// How often step goes into space; 255 where it is 0.
+// The largest label of the labels' type, and the size of a point that has it.
+const MAX_LABEL: u8 = 255;
+
+const MAX_SIZE: usize = MAX_LABEL as usize - 1;
+
+// How often step goes into space; the largest size where it is 0.
 fn steps(space: usize, step: usize) -> usize
     requires { ⌜ step ≤ 2 ⌝ }
     ensures { λ r. ⌜ Room (λ n. leb (n * step) space) r ⌝ }
 {
     if step == 0 {
-        return 255;
+        return MAX_SIZE;
     }
     if step == 1 {
         return space;
@@ -39,11 +45,11 @@ fn room(side: usize, lo: usize, hi: usize, x: usize) -> usize
 fn limit(cut: u32, room: usize) -> u8
     ensures { λ l. ⌜ Limit cut (λ n. leb n room) l ⌝ }
 {
-    if cut >= 255 {
-        return 255;
+    if cut as usize > MAX_SIZE {
+        return MAX_LABEL;
     }
-    if room >= 254 {
-        return 255;
+    if room >= MAX_SIZE {
+        return MAX_LABEL;
     }
     if (cut as usize) < room + 1 {
         return (room + 1) as u8;
@@ -96,14 +102,14 @@ fn row_is_wild(row: &[u8], limits: &[u8], limit: u8) -> bool
 
 // Whether a label is above the limit of its column or its row.
 fn has_wild(w: usize, h: usize, element: u32, cut: u32, labels: &[u8]) -> bool
-    requires { ⌜ (w ≤ 1024) × (length (now labels) ≡ w * h) × T (isElement element) ⌝ }
+    requires { ⌜ (w ≤ maxFrame) × (length (now labels) ≡ w * h) × T (isElement element) ⌝ }
     ensures { λ r. ⌜ r ≡ isWild w h (offsets element) cut (now (labels .entry)) ⌝ }
 {
     let left = refusals::extent::extent(element, true, false);
     let right = refusals::extent::extent(element, true, true);
     let up = refusals::extent::extent(element, false, false);
     let down = refusals::extent::extent(element, false, true);
-    let mut limits = [0u8; 1024];
+    let mut limits = [0u8; raster::MAX_FRAME];
     column_limits(w, left, right, cut, &mut limits);
     let mut y: usize = 0;
     while y < h {
@@ -118,7 +124,7 @@ fn has_wild(w: usize, h: usize, element: u32, cut: u32, labels: &[u8]) -> bool
 
 // Row 5: a point of the map, kept from the cut on, leaves the frame when it is dilated to its size. Where none is kept, none is looked at.
 pub fn is_wild(w: usize, h: usize, element: u32, cut: u32, labels: &[u8]) -> bool
-    requires { ⌜ (w ≤ 1024) × (length (now labels) ≡ w * h) × T (isElement element) ⌝ }
+    requires { ⌜ (w ≤ maxFrame) × (length (now labels) ≡ w * h) × T (isElement element) ⌝ }
     ensures { λ r. ⌜ r ≡ isWild w h (offsets element) cut (now (labels .entry)) ⌝ }
 {
     if points::greatest(labels) as u32 <= cut {

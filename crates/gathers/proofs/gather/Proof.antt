@@ -7,6 +7,8 @@ use native.Mathlib.Omega.{arith}
 use denote.Ref.{now}
 use lib.ListN.{drop, length, take}
 use Rattle.morphology.specs.Element.{offsets}
+use Rattle.morphology.specs.Labels.{maxLabel}
+use Rattle.raster.specs.Limits.{maxFrame}
 use Rattle.points.specs.Points.{Tops, greatestBelow}
 use Rattle.steps.specs.Steps.{First}
 use Rattle.steps.proofs.StepLaws.{sheet-bytes}
@@ -16,7 +18,7 @@ use Rattle.gathers.proofs.gather.Tie as tie
 
 abbrev Inv-loop : tie.InvT-loop
 Inv-loop w h r p element cut labels work₀ n₀ tops₀ work n tops =
-    (n ≤ 255) × First w h p (gathered w h (offsets element) labels (max n cut)) work₀ work × (length tops ≡ 1024) × Tops w h n labels tops
+    (n ≤ maxLabel) × First w h p (gathered w h (offsets element) labels (max n cut)) work₀ work × (length tops ≡ maxFrame) × Tops w h n labels tops
 
 abbrev μ-loop : tie.MeasureT-loop
 μ-loop w h r p element cut labels work₀ n₀ tops₀ work n tops =

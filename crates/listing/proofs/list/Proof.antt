@@ -1,17 +1,18 @@
 -- `listing::list` meets its contract.
 use mathlib.Core.Path.{refl, sym}
-use Prim.Native.Nat.{ℕ}
+use Prim.Native.Nat.{_*_, ℕ}
 use native.Mathlib.Omega.{arith}
 use lib.ListN.{length-replicate}
+use Rattle.listing.specs.Printed.{side, sideBytes}
 use Rattle.listing.proofs.AppendLaws.{appended-whole}
 use Rattle.listing.proofs.list.Statement.{statement}
 use Rattle.listing.proofs.list.Tie as tie
 
 slice-aggregate-list-bytes : tie.Need-slice-aggregate-list-bytes
-slice-aggregate-list-bytes c = sym (length-replicate {A = ℕ} 65025 0)
+slice-aggregate-list-bytes c = sym (length-replicate {A = ℕ} (side * side) 0)
 
 slice-aggregate-list-bytes-2 : tie.Need-slice-aggregate-list-bytes-2
-slice-aggregate-list-bytes-2 c = sym (length-replicate {A = ℕ} 24480 0)
+slice-aggregate-list-bytes-2 c = sym (length-replicate {A = ℕ} (3 * (side * sideBytes)) 0)
 
 list-bytes-requires : tie.Need-list-bytes-requires
 list-bytes-requires c κs = (refl, refl, omega arith)

@@ -7,6 +7,7 @@ use denote.Ref.{now}
 use Rattle.morphology.specs.Element.{offsets}
 use Rattle.morphology.specs.Refusals.{row5, row7}
 use Rattle.morphology.proofs.RefusalLaws.{first-both, first-passed, first-refused, first-row}
+use Rattle.refusals.proofs.SideLaws.{sides-frame}
 use Rattle.gathers.proofs.GatherLaws.{shape-is, shaped, shapeRows}
 use Rattle.skeleton.proofs.reconstruct_refusal.Statement.{statement}
 use Rattle.skeleton.proofs.reconstruct_refusal.Tie as tie
@@ -34,7 +35,7 @@ is-wild-requires c κs =
     let a = c .before .before .before .before .before .before .before .before .args in
     let e = shape-is (a .w) (a .h) (a .element) (now (a .labels)) (now (a .image)) (now (a .work)) _ _ _ _ (c .before .before .before .before .not-places .ensures) (c .before .before .before .not-plane .ensures) (c .before .before .short-work .ensures) (c .before .shape-rows .ensures) in
     let d = shaped (a .w) (a .h) (a .element) (now (a .labels)) (now (a .image)) (now (a .work)) (sym e ∙ c .if1 .left) in
-    (omega (arith, d .sides .across), d .places, d .element)
+    (sides-frame (d .sides) .across, d .places, d .element)
 
 row-requires : tie.Need-row-requires
 row-requires c κs = search needs

@@ -2,16 +2,16 @@
 use denote.Ref.{now}
 use native.Mathlib.Omega.{arith}
 use mathlib.Core.Path.{_≡_, subst}
-use Prim.Native.Nat.{_*_, _-_, _≤_, ℕ}
+use Prim.Native.Nat.{_*_, _+_, _-_, _≤_, ℕ}
 use lib.ListN.{length, length-replicate}
 use Rattle.strips.specs.Neighbours.{PlaneJoined, neighbours, source, sourceBit}
 use Rattle.strips.proofs.JoinLaws.{source-fits}
-use Rattle.strips.proofs.StripLaws.{plane-next, plane-start, strip-rows}
+use Rattle.strips.proofs.StripLaws.{nearBytes, plane-next, plane-start, strip-rows}
 use Rattle.strips.proofs.join_plane.Statement.{statement}
 use Rattle.strips.proofs.join_plane.Tie as tie
 
 abbrev Inv-loop : tie.InvT-loop
-Inv-loop dilating inverse own image work₀ p r h element buf₀ strip₀ most y₀ work buf strip y = (y ≤ h) × PlaneJoined dilating p r y work₀ work (λ y x. neighbours dilating element (sourceBit inverse (source own image work₀) r h) x y) × (length buf ≡ 2562) × (length strip ≡ 2560)
+Inv-loop dilating inverse own image work₀ p r h element buf₀ strip₀ most y₀ work buf strip y = (y ≤ h) × PlaneJoined dilating p r y work₀ work (λ y x. neighbours dilating element (sourceBit inverse (source own image work₀) r h) x y) × (length buf ≡ nearBytes + 2) × (length strip ≡ nearBytes)
 
 abbrev μ-loop : tie.MeasureT-loop
 μ-loop dilating inverse own image work₀ p r h element buf₀ strip₀ most y₀ work buf strip y = h - y
@@ -24,8 +24,8 @@ loop-holds c =
     let a = c .before .before .args in (
       omega arith,
       plane-start (a .dilating) (a .p) (a .r) (now (a .work)) (λ y x. neighbours (a .dilating) (a .element) (sourceBit (a .inverse) (source (a .own) (now (a .image)) (now (a .work))) (a .r) (a .h)) x y),
-      length-replicate {A = ℕ} 2562 0,
-      length-replicate {A = ℕ} 2560 0,
+      length-replicate {A = ℕ} (nearBytes + 2) 0,
+      length-replicate {A = ℕ} nearBytes 0,
     )
 
 sub-lesser : tie.Need-sub-lesser Inv-loop μ-loop

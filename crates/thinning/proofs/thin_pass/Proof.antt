@@ -3,10 +3,12 @@ use mathlib.Core.Path.{_∙_, sym}
 use Prim.Native.Nat.{_-_, _≤_}
 use native.Mathlib.Omega.{arith}
 use denote.Ref.{now}
+use Rattle.morphology.specs.Element.{isMask}
+use Rattle.morphology.specs.Lists.{tabulate}
 use Rattle.morphology.proofs.PlaneLaws.{Plane}
 use Rattle.steps.proofs.StepLaws.{sheet-bytes}
 use Rattle.thinning.specs.Passes.{Leaves}
-use Rattle.thinning.proofs.PassLaws.{entry-is, entry-mask, masks-plane, pass-done, pass-start, pass-turn}
+use Rattle.thinning.proofs.PassLaws.{entry-is, masks-plane, pass-done, pass-start, pass-turn, takes-all, takes-entry}
 use Rattle.thinning.proofs.ThinTurns.{masksBelow}
 use Rattle.thinning.proofs.thin_pass.Statement.{statement}
 use Rattle.thinning.proofs.thin_pass.Tie as tie
@@ -27,6 +29,7 @@ array-copy-out-mask : tie.Need-array-copy-out-mask Inv-loop μ-loop
 array-copy-out-mask c = omega arith
 
 thin-step-requires : tie.Need-thin-step-requires Inv-loop μ-loop
+unfolding isMask tabulate
 thin-step-requires c κs =
     let s = c .before .before .before .before .before .before .before in
     let a = s .args in
@@ -34,7 +37,7 @@ thin-step-requires c κs =
     let q = sheet-bytes (s .pre .0) in
     let g : Plane (a .w) (a .h) (now (a .image)) = record { size = s .pre .1 ∙ q; bytes = λ i. c .before .before .before .before .before .before .slice-known .given i .fits; clean = s .pre .3 } in
     let m = masks-plane (a .w) (a .h) (a .p) (l .k) (now (a .image)) (l .image) (now (a .work)) (l .work) g (l .inv .1) in
-    (s .pre .0, m .size ∙ sym q, omega (arith, l .inv .1 .size, s .pre .2), entry-mask (l .k) (omega (arith, c .before .before .before .loop-test .taken)), m .clean)
+    (s .pre .0, m .size ∙ sym q, omega (arith, l .inv .1 .size, s .pre .2), rw takes-entry (takes-all 8 (l .k) (omega (arith, c .before .before .before .loop-test .taken))), m .clean)
 
 add-k : tie.Need-add-k Inv-loop μ-loop
 add-k c = omega arith

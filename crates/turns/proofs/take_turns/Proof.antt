@@ -88,7 +88,7 @@ add-points c =
     let a = s .args in
     let l = c .before .before .before .before .before .before .before .before .loop in
     let on = image-on (a .w) (a .h) (now (a .work)) in
-    omega (arith, turns-found (a .element) (s .pre .0) (s .pre .5) on (l .inv .0), stepped-le (c .before .before .before .before .turn-band .ensures), mul-le-mul-right (a .h) (s .pre .1), s .pre .2)
+    omega (arith, turns-found (a .element) (s .pre .0) (s .pre .5) on (l .inv .0), stepped-le (c .before .before .before .before .turn-band .ensures), mul-le-mul-right (a .h) (s .pre .0 .frame .across), s .pre .0 .frame .down)
 
 add-n : tie.Need-add-n Inv-loop μ-loop
 add-n c =

@@ -45,7 +45,7 @@ loop-holds c =
       record {
         shape = element (s .args .element) (s .pre .2);
         size = s .pre .1;
-        bytes = λ i. omega (arith, c .before .before .before .before .before .before .before .shared-slice-known .given i);
+        labels = λ i. omega (arith, c .before .before .before .before .before .before .before .shared-slice-known .given i);
         leftward = c .before .before .before .before .before .before .extent .ensures .0;
         rightward = c .before .before .before .before .before .extent2 .ensures .0;
         upward = c .before .before .before .before .extent3 .ensures .0;

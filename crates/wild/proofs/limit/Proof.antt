@@ -1,15 +1,16 @@
 -- `wild::limit` meets its contract.
 use native.Mathlib.Omega.{arith}
 use borrow.Author.Needs.{needs}
+use Rattle.morphology.specs.Labels.{maxLabel}
 use Rattle.wild.proofs.WildLaws.{limit-is}
 use Rattle.wild.proofs.limit.Statement.{statement}
 use Rattle.wild.proofs.limit.Tie as tie
 
 returns : tie.Need-returns
-returns c = let a = c .before .args in limit-is (a .cut) (a .room) 255 (λ n h l. absurd (omega arith)) (λ n h k l. absurd (omega arith))
+returns c = let a = c .before .args in limit-is (a .cut) (a .room) maxLabel (λ n h l. absurd (omega arith)) (λ n h k l. absurd (omega arith))
 
 returns-2 : tie.Need-returns-2
-returns-2 c = let a = c .before .before .args in limit-is (a .cut) (a .room) 255 (λ n h l. absurd (omega arith)) (λ n h k l. absurd (omega arith))
+returns-2 c = let a = c .before .before .args in limit-is (a .cut) (a .room) maxLabel (λ n h l. absurd (omega arith)) (λ n h k l. absurd (omega arith))
 
 add-if3 : tie.Need-add-if3
 add-if3 c = search needs

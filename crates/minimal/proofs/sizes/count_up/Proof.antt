@@ -47,7 +47,7 @@ count-size-requires c κs =
     let t = c .before .before .loop-test .taken in (
       begun-shape (a .w) (a .h) (a .r) (a .p) (a .element) (a .a) (a .top) (now (a .labels)) (now (a .work)) b (l .n) _ (l .work) t (c .before .before .before .before .before .before .mark .ensures .size) (l .inv .1),
       b .tame,
-      omega (arith, b .byte, t),
+      omega (arith, b .fits, t),
       l .inv .2,
     )
 

@@ -46,7 +46,7 @@ walk-size-requires c κs =
     let t = c .before .before .before .loop-test .taken in (
       begun-shape (a .w) (a .h) (a .r) (a .p) (a .element) (a .a) (a .top) (now (a .labels)) (now (a .work)) b (l .n) _ (l .work) t (c .before .before .before .before .before .before .before .mark .ensures .size) (l .inv .1),
       below-tame (a .w) (a .h) (offsets (a .element)) (now (a .labels)) (l .n) (l .labels) (b .tame) (l .inv .3) (l .inv .2),
-      omega (arith, b .byte, t),
+      omega (arith, b .fits, t),
       l .inv .4,
     )
 
