@@ -120,7 +120,7 @@ closed W H e X sides on = record {
 
 -- ---- demand 3
 
-answer-accepted : (m : List ℕ) (n : ℕ) → skeletonAnswer m n .refusal ≡ 0
+pub answer-accepted : (m : List ℕ) (n : ℕ) → skeletonAnswer m n .refusal ≡ 0
 answer-accepted m zero = refl
 answer-accepted m (suc n) = refl
 
