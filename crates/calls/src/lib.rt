@@ -1,6 +1,7 @@
 // A call of a public operation by its number, with its answer as numbers.
 mod format;
 
+pub use format::HEADER;
 pub use format::answer;
 use minimal::Minimised;
 use skeleton::Decomposed;
@@ -132,7 +133,8 @@ pub fn call(
     z: &mut [u8],
     c: &mut [u16],
 ) -> Reply
-    ensures outcome { λ r. ⌜ outcome (answerOf r) (now (y .exit) ∷ now (z .exit) ∷ now (c .exit) ∷ []) ≡ called op w h a b (now (x .entry)) (now (y .entry)) (now (z .entry)) (now (c .entry)) ⌝ }
+    ensures outcome { λ r. ⌜ outcome (answerOf r) (now (y .exit) ∷ now (z .exit) ∷ now (c .exit) ∷ [])
+        ≡ called op w h a b (now (x .entry)) (now (y .entry)) (now (z .entry)) (now (c .entry)) ⌝ }
     ensures zeros { λ r. ⌜ r ≡ replyOf (answerOf r) ⌝ }
 {
     match op {
