@@ -20,6 +20,7 @@ ghost use Rattle.calls.specs.Called.{called};
 ghost use Rattle.calls.specs.Replies.{answerOf, replyOf};
 
 // An answer: the refusal's number, 0 if there is none, and how many values there are, with 0 for those that are not there.
+#[repr(C)]
 pub struct Reply {
     pub refusal: u8,
     pub count: u8,
@@ -55,7 +56,7 @@ fn one(v: u32) -> Reply
 }
 
 // The answer of an erosion, an opening or a reconstruction.
-pub fn of_written(a: Written) -> Reply
+fn of_written(a: Written) -> Reply
     ensures { λ r. ⌜ r ≡ replyOf (writtenAnswer a) ⌝ }
 {
     match a {
@@ -65,7 +66,7 @@ pub fn of_written(a: Written) -> Reply
 }
 
 // The answer of a decomposition.
-pub fn of_decomposed(a: Decomposed) -> Reply
+fn of_decomposed(a: Decomposed) -> Reply
     ensures { λ r. ⌜ r ≡ replyOf (decomposedAnswer a) ⌝ }
 {
     match a {
@@ -82,7 +83,7 @@ pub fn of_decomposed(a: Decomposed) -> Reply
 }
 
 // The answer of a minimisation.
-pub fn of_minimised(a: Minimised) -> Reply
+fn of_minimised(a: Minimised) -> Reply
     ensures { λ r. ⌜ r ≡ replyOf (minimisedAnswer a) ⌝ }
 {
     match a {
@@ -92,7 +93,7 @@ pub fn of_minimised(a: Minimised) -> Reply
 }
 
 // The answer of hit-or-miss.
-pub fn of_hit(a: Hit) -> Reply
+fn of_hit(a: Hit) -> Reply
     ensures { λ r. ⌜ r ≡ replyOf (hitAnswer a) ⌝ }
 {
     match a {
@@ -102,7 +103,7 @@ pub fn of_hit(a: Hit) -> Reply
 }
 
 // The answer of a thinning.
-pub fn of_thinned(a: Thinned) -> Reply
+fn of_thinned(a: Thinned) -> Reply
     ensures { λ r. ⌜ r ≡ replyOf (thinnedAnswer a) ⌝ }
 {
     match a {
@@ -121,8 +122,9 @@ pub fn of_thinned(a: Thinned) -> Reply
     }
 }
 
-// Calls operation `op`: x is read, y, z and c are lent. A buffer that the operation does not have stays as it is.
-pub fn call(
+// Calls operation `op`: x is read, y, z and c are lent. A buffer that the operation does not have stays as it is. Exported for bench/.
+#[no_mangle]
+pub extern "C" fn call(
     op: u8,
     w: u32,
     h: u32,
