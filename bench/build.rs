@@ -1,16 +1,16 @@
-//! TIMING_LIB names the folder of libtiming.a, the proved functions as a static library. With it,
+//! CALLS_LIB names the folder of libcalls.a, the proved functions as a static library. With it,
 //! Leptonica is linked too where pkg-config finds it (Debian's libleptonica-dev).
 
 use std::process::Command;
 
 fn main() {
     println!("cargo:rustc-check-cfg=cfg(leptonica)");
-    println!("cargo:rerun-if-env-changed=TIMING_LIB");
-    let Ok(folder) = std::env::var("TIMING_LIB") else {
+    println!("cargo:rerun-if-env-changed=CALLS_LIB");
+    let Ok(folder) = std::env::var("CALLS_LIB") else {
         return;
     };
     println!("cargo:rustc-link-search=native={folder}");
-    println!("cargo:rerun-if-changed={folder}/libtiming.a");
+    println!("cargo:rerun-if-changed={folder}/libcalls.a");
     let found = Command::new("pkg-config").args(["--libs", "lept"]).output();
     if let Some(found) = found.ok().filter(|found| found.status.success()) {
         println!("cargo:rustc-cfg=leptonica");

@@ -60,7 +60,7 @@ pub fn compare(
     lent: &Lent,
     in_place: bool,
     baseline: impl Fn(&mut Lent) -> Result<u32, u8>,
-    proved: impl Fn(&mut Lent) -> u32,
+    proved: impl Fn(&mut Lent) -> Result<u32, u8>,
     other: impl Fn() -> Option<Other>,
 ) {
     let columns = columns(title);
@@ -68,6 +68,7 @@ pub fn compare(
         return;
     }
     let baseline = |lent: &mut Lent| baseline(lent).expect("sound arguments");
+    let proved = |lent: &mut Lent| proved(lent).expect("sound arguments");
     let (mut of_proved, mut of_baseline) = (lent.clone(), lent.clone());
     let answers = (proved(&mut of_proved), baseline(&mut of_baseline));
     assert!(
@@ -109,7 +110,8 @@ pub fn compare(
 }
 
 /// The best time of a call, in microseconds.
-pub fn time(lent: &mut Lent, call: impl Fn(&mut Lent) -> u32) -> f64 {
+pub fn time(lent: &mut Lent, call: impl Fn(&mut Lent) -> Result<u32, u8>) -> f64 {
+    let call = |lent: &mut Lent| call(lent).expect("sound arguments");
     let [time] = best([&mut |calls| Some(round(calls, lent, None, &call))]);
     time.unwrap_or(0.0)
 }

@@ -36,7 +36,6 @@ pub fn tables() {
     for n in FOLDS {
         erode(SIDE, ("SQUARE", SQUARE), n);
     }
-    #[cfg(feature = "decompose")]
     for side in SIDES {
         decompose(side);
     }
@@ -62,7 +61,6 @@ fn erode(side: u32, (name, element): (&str, u32), n: u32) {
 }
 
 /// A decomposition by the square makes a step for each size.
-#[cfg(feature = "decompose")]
 #[rustfmt::skip]
 fn decompose(side: u32) {
     line("growth, decompose", side, ("SQUARE", SQUARE), side.div_ceil(2), |l| {
@@ -76,7 +74,7 @@ fn line(
     side: u32,
     (name, element): (&str, u32),
     steps: u32,
-    call: impl Fn(&mut Lent) -> u32,
+    call: impl Fn(&mut Lent) -> Result<u32, u8>,
 ) {
     let mut lent = lent(side);
     let (bytes, points) = (lent.image.len(), element.count_ones());

@@ -3,8 +3,6 @@
 
 mod compare;
 mod growth;
-// Which of its functions are called depends on what the linked library has.
-#[allow(dead_code)]
 #[cfg_attr(not(leptonica), path = "leptonica_absent.rs")]
 mod leptonica;
 mod proved;
@@ -23,25 +21,21 @@ fn main() {
             erode_and_open([input, name], element, &image);
         }
     }
-    #[cfg(feature = "decompose")]
     for (input, image) in images() {
         for (name, element) in ELEMENTS {
             decompose([input, name], element, &image);
         }
     }
-    #[cfg(feature = "reconstruct")]
     for (input, image) in images() {
         for (name, element) in ELEMENTS {
             reconstruct([input, name], element, &image);
         }
     }
-    #[cfg(feature = "minimise")]
     for (input, image) in images() {
         for (name, element) in ELEMENTS {
             minimise([input, name], element, &image);
         }
     }
-    #[cfg(feature = "thin")]
     for (input, image) in images() {
         thin(input, &image);
     }
@@ -75,7 +69,6 @@ fn erode_and_open([input, name]: [&str; 2], element: u32, image: &[u8]) {
 }
 
 /// The labels of an image.
-#[cfg(any(feature = "reconstruct", feature = "minimise"))]
 fn labels(element: u32, image: &[u8]) -> Vec<u8> {
     let mut labels = vec![0; (SIDE * SIDE) as usize];
     let mut work = vec![0; 3 * image.len()];
@@ -84,7 +77,6 @@ fn labels(element: u32, image: &[u8]) -> Vec<u8> {
     labels
 }
 
-#[cfg(feature = "decompose")]
 #[rustfmt::skip]
 fn decompose([input, name]: [&str; 2], element: u32, image: &[u8]) {
     let lent = Lent { labels: vec![0xa5; (SIDE * SIDE) as usize], ..lent(image) };
@@ -94,7 +86,6 @@ fn decompose([input, name]: [&str; 2], element: u32, image: &[u8]) {
         || leptonica::decompose(element, image));
 }
 
-#[cfg(feature = "reconstruct")]
 #[rustfmt::skip]
 fn reconstruct([input, name]: [&str; 2], element: u32, image: &[u8]) {
     const CUTS: [u32; 3] = [0, 1, 8];
@@ -107,7 +98,6 @@ fn reconstruct([input, name]: [&str; 2], element: u32, image: &[u8]) {
     }
 }
 
-#[cfg(feature = "minimise")]
 #[rustfmt::skip]
 fn minimise([input, name]: [&str; 2], element: u32, image: &[u8]) {
     let labels = labels(element, image);
@@ -118,7 +108,6 @@ fn minimise([input, name]: [&str; 2], element: u32, image: &[u8]) {
         || None);
 }
 
-#[cfg(feature = "thin")]
 #[rustfmt::skip]
 fn thin(input: &str, image: &[u8]) {
     let timed = |name: &str, other: fn(&[u8]) -> Option<compare::Other>| {

@@ -1,84 +1,69 @@
-//! The proved functions, linked as a static library. A slice goes as a pointer and a length.
-//! Each answers one number: `decompose` and `minimise` the points, `thin` the passes, the
-//! others the area.
+//! The proved functions, linked as a static library: one function makes any call, by the
+//! operation's number, with x to read and y, z and c to write (`crates/replay/src/main.rt` has the
+//! table). A slice goes as a pointer and a length. Each answers one number or is refused:
+//! `decompose` and `minimise` answer the points, `thin` the passes, the others the area.
+
+/// An answer whole; what is timed needs only its first value.
+#[repr(C)]
+#[allow(dead_code)]
+struct Reply {
+    refusal: u8,
+    count: u8,
+    first: u32,
+    second: u32,
+    third: u32,
+}
 
 #[rustfmt::skip]
-#[link(name = "timing", kind = "static")]
+#[link(name = "calls", kind = "static")]
 extern "C" {
-    fn time_erode(
-        w: u32, h: u32, element: u32, n: u32,
-        image: *const u8, image_len: usize, out: *mut u8, out_len: usize, work: *mut u8, work_len: usize,
-    ) -> u32;
-    fn time_open(
-        w: u32, h: u32, element: u32, n: u32,
-        image: *const u8, image_len: usize, out: *mut u8, out_len: usize, work: *mut u8, work_len: usize,
-    ) -> u32;
-    #[cfg(feature = "decompose")]
-    fn time_decompose(
-        w: u32, h: u32, element: u32,
-        image: *const u8, image_len: usize, labels: *mut u8, labels_len: usize, work: *mut u8, work_len: usize,
-    ) -> u32;
-    #[cfg(feature = "reconstruct")]
-    fn time_reconstruct(
-        w: u32, h: u32, element: u32, cut: u32,
-        labels: *const u8, labels_len: usize, image: *mut u8, image_len: usize, work: *mut u8, work_len: usize,
-    ) -> u32;
-    #[cfg(feature = "minimise")]
-    fn time_minimise(
-        w: u32, h: u32, element: u32,
-        labels: *mut u8, labels_len: usize, work: *mut u8, work_len: usize, counters: *mut u16, counters_len: usize,
-    ) -> u32;
-    #[cfg(feature = "thin")]
-    fn time_thin(
-        w: u32, h: u32,
-        image: *mut u8, image_len: usize, work: *mut u8, work_len: usize,
-    ) -> u32;
+    fn call(
+        op: u8, w: u32, h: u32, a: u32, b: u32,
+        x: *const u8, x_len: usize, y: *mut u8, y_len: usize, z: *mut u8, z_len: usize, c: *mut u16, c_len: usize,
+    ) -> Reply;
 }
 
-/// Calls a function of the library with numbers, slices that are read and slices that are
-/// written.
-macro_rules! call {
-    ($function:ident($($number:expr),*; $($read:ident),*; $($written:ident),*)) => {
-        // The pointers and lengths are those of slices that outlive the call.
-        unsafe {
-            $function(
-                $($number,)*
-                $($read.as_ptr(), $read.len(),)*
-                $($written.as_mut_ptr(), $written.len(),)*
-            )
-        }
+/// Makes a call; the first value, or the number of the refusal.
+#[rustfmt::skip]
+fn first(op: u8, [w, h, a, b]: [u32; 4], x: &[u8], y: &mut [u8], z: &mut [u8], c: &mut [u16]) -> Result<u32, u8> {
+    // The pointers and lengths are those of slices that outlive the call.
+    let reply = unsafe {
+        call(
+            op, w, h, a, b,
+            x.as_ptr(), x.len(), y.as_mut_ptr(), y.len(), z.as_mut_ptr(), z.len(), c.as_mut_ptr(), c.len(),
+        )
     };
+    match reply.refusal {
+        0 => Ok(reply.first),
+        refusal => Err(refusal),
+    }
 }
 
 #[rustfmt::skip]
-pub fn erode(w: u32, h: u32, element: u32, n: u32, image: &[u8], out: &mut [u8], work: &mut [u8]) -> u32 {
-    call!(time_erode(w, h, element, n; image; out, work))
+pub fn erode(w: u32, h: u32, element: u32, n: u32, image: &[u8], out: &mut [u8], work: &mut [u8]) -> Result<u32, u8> {
+    first(0, [w, h, element, n], image, out, work, &mut [])
 }
 
 #[rustfmt::skip]
-pub fn open(w: u32, h: u32, element: u32, n: u32, image: &[u8], out: &mut [u8], work: &mut [u8]) -> u32 {
-    call!(time_open(w, h, element, n; image; out, work))
+pub fn open(w: u32, h: u32, element: u32, n: u32, image: &[u8], out: &mut [u8], work: &mut [u8]) -> Result<u32, u8> {
+    first(1, [w, h, element, n], image, out, work, &mut [])
 }
 
-#[cfg(feature = "decompose")]
 #[rustfmt::skip]
-pub fn decompose(w: u32, h: u32, element: u32, image: &[u8], labels: &mut [u8], work: &mut [u8]) -> u32 {
-    call!(time_decompose(w, h, element; image; labels, work))
+pub fn decompose(w: u32, h: u32, element: u32, image: &[u8], labels: &mut [u8], work: &mut [u8]) -> Result<u32, u8> {
+    first(2, [w, h, element, 0], image, labels, work, &mut [])
 }
 
-#[cfg(feature = "reconstruct")]
 #[rustfmt::skip]
-pub fn reconstruct(w: u32, h: u32, element: u32, cut: u32, labels: &[u8], image: &mut [u8], work: &mut [u8]) -> u32 {
-    call!(time_reconstruct(w, h, element, cut; labels; image, work))
+pub fn reconstruct(w: u32, h: u32, element: u32, cut: u32, labels: &[u8], image: &mut [u8], work: &mut [u8]) -> Result<u32, u8> {
+    first(3, [w, h, element, cut], labels, image, work, &mut [])
 }
 
-#[cfg(feature = "minimise")]
 #[rustfmt::skip]
-pub fn minimise(w: u32, h: u32, element: u32, labels: &mut [u8], work: &mut [u8], counters: &mut [u16]) -> u32 {
-    call!(time_minimise(w, h, element; ; labels, work, counters))
+pub fn minimise(w: u32, h: u32, element: u32, labels: &mut [u8], work: &mut [u8], counters: &mut [u16]) -> Result<u32, u8> {
+    first(4, [w, h, element, 0], &[], labels, work, counters)
 }
 
-#[cfg(feature = "thin")]
-pub fn thin(w: u32, h: u32, image: &mut [u8], work: &mut [u8]) -> u32 {
-    call!(time_thin(w, h; ; image, work))
+pub fn thin(w: u32, h: u32, image: &mut [u8], work: &mut [u8]) -> Result<u32, u8> {
+    first(6, [w, h, 0, 0], &[], image, work, &mut [])
 }

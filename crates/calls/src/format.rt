@@ -1,10 +1,11 @@
 // Calls and replies as bytes.
 use crate::Reply;
-ghost use mathlib.Core.List.{_++_};
+ghost use mathlib.Core.List.{[], _∷_};
 ghost use mathlib.Core.Path.{_≡_};
-ghost use Prim.Native.Nat.{_*_, _≤_};
-ghost use lib.ListN.{length};
 ghost use Rattle.calls.specs.Format.{replied, replyBytes};
+
+// The bytes of a call before its buffers.
+pub const HEADER: usize = 33;
 
 // The bytes of a reply without its buffers.
 fn reply_bytes(r: Reply) -> [u8; 14]
@@ -32,17 +33,21 @@ fn reply_bytes(r: Reply) -> [u8; 14]
 }
 
 // Makes the call of a header, with x, y, z and c as they were read, and leaves the reply's buffers in y, z and c. Answers the bytes before them.
+// The counters, as many as c has pairs of bytes, are left as the call leaves them.
 pub fn answer(
-    header: &[u8],
+    header: &[u8; HEADER],
     x: &[u8],
     y: &mut [u8],
     z: &mut [u8],
     c: &mut [u8],
     counters: &mut [u16],
 ) -> [u8; 14]
-    requires { ⌜ (17 ≤ length (now header)) × (length (now c) ≡ 2 * length (now counters)) ⌝ }
-    ensures { λ r. ⌜ r ++ (now (y .exit) ++ (now (z .exit) ++ now (c .exit))) ≡ replied (now (header .entry)) (now (x .entry)) (now (y .entry)) (now (z .entry)) (now (c .entry)) ⌝ }
+    ensures { λ r. ⌜ r ∷ now (y .exit) ∷ now (z .exit) ∷ now (c .exit) ∷ now (counters .exit) ∷ []
+        ≡ replied (now (header .entry)) (now (x .entry)) (now (y .entry)) (now (z .entry)) (now (c .entry)) (now (counters .entry)) ⌝ }
 {
+    if c.len() != 2 * counters.len() {
+        return reply_bytes(crate::refused(3));
+    }
     numbers::read_counters(&c[..], counters);
     let w = numbers::number(header, 1);
     let h = numbers::number(header, 5);

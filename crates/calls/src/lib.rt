@@ -1,6 +1,7 @@
 // A call of a public operation by its number, with its answer as numbers.
 mod format;
 
+pub use format::HEADER;
 pub use format::answer;
 use minimal::Minimised;
 use skeleton::Decomposed;
@@ -19,6 +20,7 @@ ghost use Rattle.calls.specs.Called.{called};
 ghost use Rattle.calls.specs.Replies.{answerOf, replyOf};
 
 // An answer: the refusal's number, 0 if there is none, and how many values there are, with 0 for those that are not there.
+#[repr(C)]
 pub struct Reply {
     pub refusal: u8,
     pub count: u8,
@@ -54,7 +56,7 @@ fn one(v: u32) -> Reply
 }
 
 // The answer of an erosion, an opening or a reconstruction.
-pub fn of_written(a: Written) -> Reply
+fn of_written(a: Written) -> Reply
     ensures { λ r. ⌜ r ≡ replyOf (writtenAnswer a) ⌝ }
 {
     match a {
@@ -64,7 +66,7 @@ pub fn of_written(a: Written) -> Reply
 }
 
 // The answer of a decomposition.
-pub fn of_decomposed(a: Decomposed) -> Reply
+fn of_decomposed(a: Decomposed) -> Reply
     ensures { λ r. ⌜ r ≡ replyOf (decomposedAnswer a) ⌝ }
 {
     match a {
@@ -81,7 +83,7 @@ pub fn of_decomposed(a: Decomposed) -> Reply
 }
 
 // The answer of a minimisation.
-pub fn of_minimised(a: Minimised) -> Reply
+fn of_minimised(a: Minimised) -> Reply
     ensures { λ r. ⌜ r ≡ replyOf (minimisedAnswer a) ⌝ }
 {
     match a {
@@ -91,7 +93,7 @@ pub fn of_minimised(a: Minimised) -> Reply
 }
 
 // The answer of hit-or-miss.
-pub fn of_hit(a: Hit) -> Reply
+fn of_hit(a: Hit) -> Reply
     ensures { λ r. ⌜ r ≡ replyOf (hitAnswer a) ⌝ }
 {
     match a {
@@ -101,7 +103,7 @@ pub fn of_hit(a: Hit) -> Reply
 }
 
 // The answer of a thinning.
-pub fn of_thinned(a: Thinned) -> Reply
+fn of_thinned(a: Thinned) -> Reply
     ensures { λ r. ⌜ r ≡ replyOf (thinnedAnswer a) ⌝ }
 {
     match a {
@@ -120,8 +122,9 @@ pub fn of_thinned(a: Thinned) -> Reply
     }
 }
 
-// Calls operation `op`: x is read, y, z and c are lent. A buffer that the operation does not have stays as it is.
-pub fn call(
+// Calls operation `op`: x is read, y, z and c are lent. A buffer that the operation does not have stays as it is. Exported for bench/.
+#[no_mangle]
+pub extern "C" fn call(
     op: u8,
     w: u32,
     h: u32,
@@ -132,7 +135,8 @@ pub fn call(
     z: &mut [u8],
     c: &mut [u16],
 ) -> Reply
-    ensures outcome { λ r. ⌜ outcome (answerOf r) (now (y .exit) ∷ now (z .exit) ∷ now (c .exit) ∷ []) ≡ called op w h a b (now (x .entry)) (now (y .entry)) (now (z .entry)) (now (c .entry)) ⌝ }
+    ensures outcome { λ r. ⌜ outcome (answerOf r) (now (y .exit) ∷ now (z .exit) ∷ now (c .exit) ∷ [])
+        ≡ called op w h a b (now (x .entry)) (now (y .entry)) (now (z .entry)) (now (c .entry)) ⌝ }
     ensures zeros { λ r. ⌜ r ≡ replyOf (answerOf r) ⌝ }
 {
     match op {

@@ -25,8 +25,6 @@ ghost use mathlib.Core.Path.{_≡_};
 ghost use Prim.Native.Nat.{_*_};
 ghost use lib.ListN.{length};
 
-const HEADER: usize = 33;
-
 // The longest buffer.
 const SIZE: usize = 65536;
 
@@ -49,7 +47,7 @@ fn put(s: &[u8]) -> bool {
 
 // Reads the buffers of a call, which have its lengths, makes the call and writes its reply; whether all of it could be done.
 fn serve(
-    header: &[u8; HEADER],
+    header: &[u8; calls::HEADER],
     x: &mut [u8],
     y: &mut [u8],
     z: &mut [u8],
@@ -76,7 +74,7 @@ fn serve(
 
 // Reads a call that fits the buffers, makes it and writes its reply; whether there was one.
 fn turn(x: &mut [u8], y: &mut [u8], z: &mut [u8], c: &mut [u8], counters: &mut [u16]) -> bool {
-    let mut header = [0u8; HEADER];
+    let mut header = [0u8; calls::HEADER];
     if !fill(&mut header) {
         return false;
     }

@@ -1,66 +1,116 @@
--- The two calls of a sieve are its definition's.
+-- The calls of a sieve are its outcome; a sieve as it runs is the claims' sieve, by cases of the first call's refusal, and so is a list, by induction.
 use mathlib.Core.Bool.{Bool, _||_, cond, false, not, true}
 use mathlib.Core.List.{List, [], _∷_}
 use mathlib.Core.Path.{_∙_, _≡_, ap, ap₂, refl, subst, sym}
 use Prim.Native.Nat.{suc, zero, ℕ}
-use borrow.Author.Tests.{eq-eqb, ne-eqb}
+use native.Mathlib.Nat.{suc-ne-zero}
+use borrow.Author.Tests.{ne-eqb}
 use lib.Dec.{T, eqb}
-use lib.ListN.{getD}
-use Rattle.claims.specs.Sieves.{Sieve, isRefused, rebuilt, sieveRefused, sieved, takenApart}
+use Rattle.claims.specs.Sieves.{Sieve, accepted, isRefused, largestCut, rebuilt, sieveAll, sieveRefused, sieved, takenApart}
+use Rattle.claims.specs.Claims.{Sieved}
+use Rattle.claims.proofs.Claims.{answer-accepted, sieve-list}
+use Rattle.claims.proofs.RowLaws.{refuses}
 use Rattle.morphology.specs.Answers.{Answer, Outcome, outcome, output, refused}
 use Rattle.morphology.specs.Element.{offsets}
-use Rattle.morphology.specs.Operations.{decomposed, reconstructRows, reconstructed, writes}
+use Rattle.morphology.specs.Image.{imageSet}
+use Rattle.morphology.specs.Lists.{greatest}
+use Rattle.morphology.specs.Operations.{decomposeRows, decomposed, labelled, reconstructRows, reconstructed, writes}
 use Rattle.morphology.specs.Refusals.{firstRefusal, unless}
-use Rattle.morphology.specs.Skeleton.{reconstruction}
-use Rattle.sieves.specs.Ran.{Ran, handed}
+use Rattle.morphology.specs.Skeleton.{reconstruction, skeletonLabels}
+use Rattle.morphology.proofs.RefusalLaws.{unless-in, unless-refused}
+use Rattle.sieves.specs.Ran.{ListRunsAsClaimed, Ran, RunningSieveList, RunsAsClaimed, handed, handedAll, run, runAll, sieveOutcome, workOf}
 
--- a refused call leaves the first buffer
-unless-left : (n : ℕ) (image work : List ℕ) (o : Outcome) → o .answer .refusal ≡ 0 → isRefused (unless n (image ∷ work ∷ []) o) ≡ true
-    → output (unless n (image ∷ work ∷ []) o) ≡ image
-unless-left zero image work o z q = absurd (subst T (sym q ∙ ap not (eq-eqb (o .answer .refusal) 0 z)) tt)
-unless-left (suc n) image work o z q = refl
+-- ---- a refused call leaves its buffers
 
-reconstructed-left : (W H e k : ℕ) (m image work : List ℕ) → isRefused (reconstructed W H e k m image work) ≡ true → output (reconstructed W H e k m image work) ≡ image
+unless-left : (n : ℕ) (l : List (List ℕ)) (o : Outcome) → o .answer .refusal ≡ 0 → (unless n l o .answer .refusal ≡ 0 → ⊥) → unless n l o .lent ≡ l
+unless-left n l o z f = let r = refuses n l o z in ap (λ (p : Outcome). p .lent) (r .1 (λ e. f (r .0 ∙ e)))
+
+decomposed-left : (W H e : ℕ) (image labels work : List ℕ) → (decomposed W H e image labels work .answer .refusal ≡ 0 → ⊥)
+    → decomposed W H e image labels work .lent ≡ labels ∷ work ∷ []
+unfolding decomposed
+decomposed-left W H e image labels work f =
+    let m = skeletonLabels W H (offsets e) (imageSet W H image) in
+    unless-left (firstRefusal (decomposeRows W H e image labels work)) (labels ∷ work ∷ []) (labelled W H m work) (answer-accepted m (greatest m)) f
+
+reconstructed-left : (W H e k : ℕ) (labels image work : List ℕ) → (reconstructed W H e k labels image work .answer .refusal ≡ 0 → ⊥)
+    → reconstructed W H e k labels image work .lent ≡ image ∷ work ∷ []
 unfolding reconstructed
-reconstructed-left W H e k m image work q =
-    unless-left (firstRefusal (reconstructRows W H e k m image work)) image work (writes W H (reconstruction W H (offsets e) k m) work) refl q
+reconstructed-left W H e k labels image work f =
+    unless-left (firstRefusal (reconstructRows W H e k labels image work)) (image ∷ work ∷ []) (writes W H (reconstruction W H (offsets e) k labels) work) refl f
+
+-- ---- the calls as they are made
 
 module _ (W H e k : ℕ) (image labels work : List ℕ) where
-  abbrev s : Sieve
-  s = handed W H e k image labels work
-
-  abbrev D : Outcome
-  D = decomposed W H e image labels work
-
   -- the first call is refused
-  pub ran-refused : (a : Answer) (labels′ work′ : List ℕ) (n : ℕ) → outcome a (labels′ ∷ work′ ∷ []) ≡ D → n ≡ a .refusal → (n ≡ 0 → ⊥)
-      → Ran (handed W H e k image labels work) image image (refused n)
-  unfolding sieved sieveRefused takenApart
-  ran-refused a labels′ work′ n q r f =
-      let first : isRefused D ≡ true = ap (λ (o : Outcome). isRefused o) (sym q) ∙ ap (λ (i : ℕ). not (eqb i 0)) (sym r) ∙ ap not (ne-eqb n 0 f) in
-      let both : sieveRefused s image ≡ true = ap (λ (b : Bool). b || isRefused (rebuilt s image)) first in
-      record {
-        scan = sym (ap (λ (b : Bool). cond b image (output (rebuilt s image))) both);
-        refusal = ap not (ne-eqb n 0 f) ∙ sym both;
-        answer = λ g. absurd (subst T (sym both ∙ g) tt);
-      }
+  pub outcome-refused : (a : Answer) (labels′ work′ : List ℕ) (n : ℕ) → outcome a (labels′ ∷ work′ ∷ []) ≡ decomposed W H e image labels work → n ≡ a .refusal → (n ≡ 0 → ⊥)
+      → outcome (refused n) (image ∷ labels′ ∷ work′ ∷ []) ≡ sieveOutcome W H e k image labels work
+  unfolding sieveOutcome
+  outcome-refused a labels′ work′ n q r f =
+      let D = decomposed W H e image labels work in
+      let z : n ≡ D .answer .refusal = r ∙ ap (λ (o : Outcome). o .answer .refusal) q in
+      let g : D .answer .refusal ≡ 0 → ⊥ = λ y. f (z ∙ y) in
+      ap₂ (λ (i : ℕ) (l : List (List ℕ)). outcome (refused i) (image ∷ l)) z (ap (λ (o : Outcome). o .lent) q ∙ decomposed-left W H e image labels work g)
+      ∙ sym (unless-refused (D .answer .refusal) (image ∷ labels ∷ work ∷ []) _ g)
 
   -- it is not
-  pub ran-both : (a b : Answer) (labels′ work′ left work″ : List ℕ) (n : ℕ) → outcome a (labels′ ∷ work′ ∷ []) ≡ D → n ≡ a .refusal → n ≡ 0
+  pub outcome-both : (a b : Answer) (labels′ work′ left work″ : List ℕ) (n : ℕ) → outcome a (labels′ ∷ work′ ∷ []) ≡ decomposed W H e image labels work → n ≡ a .refusal → n ≡ 0
       → outcome b (left ∷ work″ ∷ []) ≡ reconstructed W H e k labels′ image work′
-      → Ran (handed W H e k image labels work) image left b
-  unfolding sieved sieveRefused takenApart rebuilt
-  ran-both a b labels′ work′ left work″ n q r z c =
-      let first : isRefused D ≡ false = ap (λ (o : Outcome). isRefused o) (sym q) ∙ ap (λ (i : ℕ). not (eqb i 0)) (sym r ∙ z) in
-      let call : outcome b (left ∷ work″ ∷ []) ≡ rebuilt s image =
-      c ∙ ap₂ (λ (m w : List ℕ). reconstructed W H e k m image w) (ap output q) (ap (λ (o : Outcome). getD (o .lent) 1 []) q) in
-      let both : isRefused (rebuilt s image) ≡ sieveRefused s image = sym (ap (λ (b : Bool). b || isRefused (rebuilt s image)) first) in
-      record {
-        scan = ap output call ∙ by (isRefused (rebuilt s image)) refl ∙ ap (λ (b : Bool). cond b image (output (rebuilt s image))) both;
-        refusal = ap (λ (o : Outcome). isRefused o) call ∙ both;
-        answer = λ g. ap (λ (o : Outcome). o .answer) call;
-      }
-    where
-      by : (t : Bool) → isRefused (rebuilt s image) ≡ t → output (rebuilt s image) ≡ cond t image (output (rebuilt s image))
-      by true g = reconstructed-left W H e k (output D) image (getD (D .lent) 1 []) g
-      by false g = refl
+      → outcome b (left ∷ labels′ ∷ work″ ∷ []) ≡ sieveOutcome W H e k image labels work
+  unfolding sieveOutcome
+  outcome-both a b labels′ work′ left work″ n q r z p =
+      let D = decomposed W H e image labels work in
+      let after : Outcome → Outcome → Outcome = λ first second. outcome (second .answer) (output second ∷ output first ∷ workOf second ∷ []) in
+      ap (λ (o : Outcome). outcome (o .answer) (output o ∷ labels′ ∷ workOf o ∷ [])) p
+      ∙ ap (λ (o : Outcome). after o (reconstructed W H e k (output o) image (workOf o))) q
+      ∙ sym (unless-in (D .answer .refusal) (image ∷ labels ∷ work ∷ []) (after D (reconstructed W H e k (output D) image (workOf D)))
+      (sym (ap (λ (o : Outcome). o .answer .refusal) q) ∙ sym r ∙ z))
+
+-- ---- the claims
+
+-- where a call is refused the image is as it was
+scan-left : (W H e k : ℕ) (labels image work : List ℕ) (t : Bool) → isRefused (reconstructed W H e k labels image work) ≡ t
+    → output (reconstructed W H e k labels image work) ≡ cond t image (output (reconstructed W H e k labels image work))
+scan-left W H e k labels image work true q =
+    ap (λ (l : List (List ℕ)). output (outcome (refused 0) l))
+    (reconstructed-left W H e k labels image work (λ z. absurd (subst T (sym q ∙ ap (λ (n : ℕ). not (eqb n 0)) z) tt)))
+scan-left W H e k labels image work false q = refl
+
+pub runs-as-claimed : RunsAsClaimed
+unfolding sieveOutcome sieved sieveRefused takenApart rebuilt
+runs-as-claimed s image = go (D .answer .refusal) refl
+  where
+    D : Outcome
+    D = decomposed (s .width) (s .height) (s .element) image (s .labels) (s .firstWork)
+
+    R : Outcome
+    R = reconstructed (s .width) (s .height) (s .element) (s .cut) (output D) image (workOf D)
+
+    go : (n : ℕ) → D .answer .refusal ≡ n
+        → Ran (handed s image) image (unless n (image ∷ s .labels ∷ s .firstWork ∷ []) (outcome (R .answer) (output R ∷ output D ∷ workOf R ∷ [])))
+    go zero q =
+        let one : isRefused R ≡ sieveRefused (handed s image) image = sym (ap (λ (n : ℕ). not (eqb n 0) || isRefused R) q) in
+        record {
+          scan = scan-left (s .width) (s .height) (s .element) (s .cut) (output D) image (workOf D) (isRefused R) refl ∙ ap (λ (b : Bool). cond b image (output R)) one;
+          refusal = one;
+          answer = λ g. refl;
+        }
+    go (suc n) q =
+        let f = ne-eqb (suc n) 0 (suc-ne-zero n) in
+        let one : true ≡ sieveRefused (handed s image) image = sym (ap (λ (n : ℕ). not (eqb n 0) || isRefused R) q ∙ ap (λ (b : Bool). not b || isRefused R) f) in
+        record {
+          scan = ap (λ (b : Bool). cond b image (output R)) one;
+          refusal = ap not f ∙ one;
+          answer = λ g. absurd (subst T (one ∙ g) tt);
+        }
+
+pub list-runs-as-claimed : ListRunsAsClaimed
+unfolding runAll handedAll sieveAll
+list-runs-as-claimed [] image = refl
+list-runs-as-claimed (s ∷ ss) image =
+    let next = output (run s image) in
+    list-runs-as-claimed ss next ∙ ap (sieveAll (handedAll ss next)) (runs-as-claimed s image .scan)
+
+pub running-sieve-list : RunningSieveList
+running-sieve-list W H e first ss i el one =
+    let done = accepted (handedAll ss first) first in
+    subst (λ (last : List ℕ). Sieved W H e first done (largestCut done) last) (sym (list-runs-as-claimed ss first)) (sieve-list W H e first (handedAll ss first) i el one)

@@ -1,10 +1,12 @@
 // A sieve of document 01 as running code: what the theorem about lists of sieves speaks of.
 use skeleton::Decomposed;
 use skeleton::Written;
+ghost use mathlib.Core.List.{[], _∷_};
 ghost use mathlib.Core.Path.{_≡_};
+ghost use Rattle.morphology.specs.Answers.{outcome};
 ghost use Rattle.skeleton.specs.Decomposed.{answerOf as decomposedAnswer};
 ghost use Rattle.skeleton.specs.Written.{answerOf};
-ghost use Rattle.sieves.specs.Ran.{Ran, handed};
+ghost use Rattle.sieves.specs.Ran.{sieveOutcome};
 
 // The number of the refusal; 0 if there is none.
 fn refusal_of(a: Decomposed) -> u8
@@ -27,7 +29,8 @@ pub fn sieve(
     labels: &mut [u8],
     work: &mut [u8],
 ) -> Written
-    ensures { λ r. ⌜ Ran (handed w h element cut (now (image .entry)) (now (labels .entry)) (now (work .entry))) (now (image .entry)) (now (image .exit)) (answerOf r) ⌝ }
+    ensures { λ r. ⌜ outcome (answerOf r) (now (image .exit) ∷ now (labels .exit) ∷ now (work .exit) ∷ [])
+        ≡ sieveOutcome w h element cut (now (image .entry)) (now (labels .entry)) (now (work .entry)) ⌝ }
 {
     let first = skeleton::decompose(w, h, element, &image[..], labels, work);
     let refusal = refusal_of(first);

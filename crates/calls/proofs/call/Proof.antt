@@ -1,4 +1,4 @@
--- `calls::call` meets its contract.
+-- `calls::call` meets its contract: in each arm the operation's own outcome, beside the buffers that it does not have, is that of the number.
 use mathlib.Core.List.{[], _∷_}
 use native.Mathlib.Omega.{arith}
 use denote.Ref.{now}
@@ -59,8 +59,10 @@ same-length-2 c = search needs
 returns : tie.Need-returns
 unfolding called
 returns c =
-    let a = c .before .before .before .before .before .before .before .before .before .before .before .before .before .args in
-    owed-beside (_ ∷ _ ∷ []) (_ ∷ []) (written-kept (c .before .before .before .before .before .erode .result)) (c .of-written .ensures) (c .before .before .before .before .before .erode .ensures) (called-as (a .w) (a .h) (a .a) (a .b) (now (a .x)) (now (a .y)) (now (a .z)) (now (a .c)) 0 (c .before .before .before .before .before .before .before .before .match .keys1))
+    let o = c .before .before .before .before .before in
+    let m = o .before .before .before in
+    let a = m .before .before .before .before .before .args in
+    owed-beside (_ ∷ _ ∷ []) (_ ∷ []) (written-kept (o .erode .result)) (c .of-written .ensures) (o .erode .ensures) (called-as (a .w) (a .h) (a .a) (a .b) (now (a .x)) (now (a .y)) (now (a .z)) (now (a .c)) 0 (m .match .keys1))
 
 same-length-3 : tie.Need-same-length-3
 same-length-3 c = search needs
@@ -71,8 +73,10 @@ same-length-4 c = search needs
 returns-2 : tie.Need-returns-2
 unfolding called
 returns-2 c =
-    let a = c .before .before .before .before .before .before .before .before .before .before .before .before .before .args in
-    owed-beside (_ ∷ _ ∷ []) (_ ∷ []) (written-kept (c .before .before .before .before .before .«open» .result)) (c .of-written2 .ensures) (c .before .before .before .before .before .«open» .ensures) (called-as (a .w) (a .h) (a .a) (a .b) (now (a .x)) (now (a .y)) (now (a .z)) (now (a .c)) 1 (c .before .before .before .before .before .before .before .before .match .keys2))
+    let o = c .before .before .before .before .before in
+    let m = o .before .before .before in
+    let a = m .before .before .before .before .before .args in
+    owed-beside (_ ∷ _ ∷ []) (_ ∷ []) (written-kept (o .«open» .result)) (c .of-written2 .ensures) (o .«open» .ensures) (called-as (a .w) (a .h) (a .a) (a .b) (now (a .x)) (now (a .y)) (now (a .z)) (now (a .c)) 1 (m .match .keys2))
 
 same-length-5 : tie.Need-same-length-5
 same-length-5 c = search needs
@@ -83,8 +87,10 @@ same-length-6 c = search needs
 returns-3 : tie.Need-returns-3
 unfolding called
 returns-3 c =
-    let a = c .before .before .before .before .before .before .before .before .before .before .before .before .before .args in
-    owed-beside (_ ∷ _ ∷ []) (_ ∷ []) (decomposed-kept (c .before .before .before .before .before .decompose .result)) (c .of-decomposed .ensures) (c .before .before .before .before .before .decompose .ensures) (called-as (a .w) (a .h) (a .a) (a .b) (now (a .x)) (now (a .y)) (now (a .z)) (now (a .c)) 2 (c .before .before .before .before .before .before .before .before .match .keys3))
+    let o = c .before .before .before .before .before in
+    let m = o .before .before .before in
+    let a = m .before .before .before .before .before .args in
+    owed-beside (_ ∷ _ ∷ []) (_ ∷ []) (decomposed-kept (o .decompose .result)) (c .of-decomposed .ensures) (o .decompose .ensures) (called-as (a .w) (a .h) (a .a) (a .b) (now (a .x)) (now (a .y)) (now (a .z)) (now (a .c)) 2 (m .match .keys3))
 
 same-length-7 : tie.Need-same-length-7
 same-length-7 c = search needs
@@ -95,8 +101,10 @@ same-length-8 c = search needs
 returns-4 : tie.Need-returns-4
 unfolding called
 returns-4 c =
-    let a = c .before .before .before .before .before .before .before .before .before .before .before .before .before .args in
-    owed-beside (_ ∷ _ ∷ []) (_ ∷ []) (written-kept (c .before .before .before .before .before .reconstruct .result)) (c .of-written3 .ensures) (c .before .before .before .before .before .reconstruct .ensures) (called-as (a .w) (a .h) (a .a) (a .b) (now (a .x)) (now (a .y)) (now (a .z)) (now (a .c)) 3 (c .before .before .before .before .before .before .before .before .match .keys4))
+    let o = c .before .before .before .before .before in
+    let m = o .before .before .before in
+    let a = m .before .before .before .before .before .args in
+    owed-beside (_ ∷ _ ∷ []) (_ ∷ []) (written-kept (o .reconstruct .result)) (c .of-written3 .ensures) (o .reconstruct .ensures) (called-as (a .w) (a .h) (a .a) (a .b) (now (a .x)) (now (a .y)) (now (a .z)) (now (a .c)) 3 (m .match .keys4))
 
 same-length-9 : tie.Need-same-length-9
 same-length-9 c = search needs
@@ -110,8 +118,10 @@ same-length-11 c = search needs
 returns-5 : tie.Need-returns-5
 unfolding called
 returns-5 c =
-    let a = c .before .before .before .before .before .before .before .before .before .before .before .before .before .before .before .before .args in
-    owed (_ ∷ _ ∷ _ ∷ []) (minimised-kept (c .before .before .before .before .before .before .before .minimise .result)) (c .of-minimised .ensures) (c .before .before .before .before .before .before .before .minimise .ensures) (called-as (a .w) (a .h) (a .a) (a .b) (now (a .x)) (now (a .y)) (now (a .z)) (now (a .c)) 4 (c .before .before .before .before .before .before .before .before .before .before .before .match .keys5))
+    let o = c .before .before .before .before .before .before .before in
+    let m = o .before .before .before .before in
+    let a = m .before .before .before .before .before .args in
+    owed (_ ∷ _ ∷ _ ∷ []) (minimised-kept (o .minimise .result)) (c .of-minimised .ensures) (o .minimise .ensures) (called-as (a .w) (a .h) (a .a) (a .b) (now (a .x)) (now (a .y)) (now (a .z)) (now (a .c)) 4 (m .match .keys5))
 
 same-length-12 : tie.Need-same-length-12
 same-length-12 c = search needs
@@ -119,8 +129,10 @@ same-length-12 c = search needs
 returns-6 : tie.Need-returns-6
 unfolding called
 returns-6 c =
-    let a = c .before .before .before .before .before .before .before .before .before .before .args in
-    owed-beside (_ ∷ []) (_ ∷ _ ∷ []) (hit-kept (c .before .before .before .hit-or-miss .result)) (c .of-hit .ensures) (c .before .before .before .hit-or-miss .ensures) (called-as (a .w) (a .h) (a .a) (a .b) (now (a .x)) (now (a .y)) (now (a .z)) (now (a .c)) 5 (c .before .before .before .before .before .match .keys6))
+    let o = c .before .before .before in
+    let m = o .before .before in
+    let a = m .before .before .before .before .before .args in
+    owed-beside (_ ∷ []) (_ ∷ _ ∷ []) (hit-kept (o .hit-or-miss .result)) (c .of-hit .ensures) (o .hit-or-miss .ensures) (called-as (a .w) (a .h) (a .a) (a .b) (now (a .x)) (now (a .y)) (now (a .z)) (now (a .c)) 5 (m .match .keys6))
 
 same-length-13 : tie.Need-same-length-13
 same-length-13 c = search needs
@@ -132,7 +144,9 @@ returns-7 : tie.Need-returns-7
 unfolding called
 returns-7 c =
     let a = c .before .before .before .before .before .before .before .before .before .before .before .before .before .args in
-    owed-beside (_ ∷ _ ∷ []) (_ ∷ []) (thinned-kept (c .before .before .before .before .before .thin .result)) (c .of-thinned .ensures) (c .before .before .before .before .before .thin .ensures) (called-thin (a .w) (a .h) (a .a) (a .b) (now (a .x)) (now (a .y)) (now (a .z)) (now (a .c)) (a .op) (omega arith))
+    let h = called-thin (a .w) (a .h) (a .a) (a .b) (now (a .x)) (now (a .y)) (now (a .z)) (now (a .c)) (a .op) (omega arith) in
+    let o = c .before .before .before .before .before in
+    owed-beside (_ ∷ _ ∷ []) (_ ∷ []) (thinned-kept (o .thin .result)) (c .of-thinned .ensures) (o .thin .ensures) h
 
 pub call-spec : {M : Type 1} → statement M
 call-spec =

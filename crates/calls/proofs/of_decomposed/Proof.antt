@@ -1,4 +1,4 @@
--- `calls::of_decomposed` meets its contract.
+-- `calls::of_decomposed` meets its contract, by cases of the enum.
 use mathlib.Core.Path.{_∙_, ap, sym}
 use Rattle.skeleton.specs.Decomposed.{answerOf}
 use Rattle.skeleton.specs.declared.Decomposed.{Decomposed}

@@ -1,4 +1,4 @@
--- `calls::of_hit` meets its contract.
+-- `calls::of_hit` meets its contract, by cases of the enum.
 use mathlib.Core.Path.{_∙_, ap, sym}
 use Rattle.thinning.specs.Hit.{answerOf}
 use Rattle.thinning.specs.declared.Hit.{Hit}

@@ -1,4 +1,4 @@
--- `calls::of_minimised` meets its contract.
+-- `calls::of_minimised` meets its contract, by cases of the enum.
 use mathlib.Core.Path.{_∙_, ap, sym}
 use Rattle.minimal.specs.Minimised.{answerOf}
 use Rattle.minimal.specs.declared.Minimised.{Minimised}

@@ -1,4 +1,4 @@
--- `calls::of_thinned` meets its contract.
+-- `calls::of_thinned` meets its contract, by cases of the enum.
 use mathlib.Core.Path.{_∙_, ap, sym}
 use Rattle.thinning.specs.Thinned.{answerOf}
 use Rattle.thinning.specs.declared.Thinned.{Thinned}

@@ -1,4 +1,4 @@
--- `calls::of_written` meets its contract.
+-- `calls::of_written` meets its contract, by cases of the enum.
 use mathlib.Core.Path.{_∙_, ap, sym}
 use Rattle.skeleton.specs.Written.{answerOf}
 use Rattle.skeleton.specs.declared.Written.{Written}

@@ -1,4 +1,4 @@
--- `replay::turn` meets its contract: every part that it lends is within its buffer.
+-- `replay::turn` meets its contract: every part that it lends is within its buffer, and c has two bytes for each counter, so that the call is made.
 use mathlib.Core.Path.{_∙_, ap, sym}
 use Prim.Native.Nat.{_*_, ℕ}
 use denote.Ref.{now}
@@ -68,19 +68,25 @@ slice-relend-prefix-serve : tie.Need-slice-relend-prefix-serve
 slice-relend-prefix-serve c = search needs
 
 slice-aggregate-serve : tie.Need-slice-aggregate-serve
-slice-aggregate-serve c = sym (length-take-le (c .before .before .before .before .before .before .before .before .before .before .before .before .before .before .number .result) (now (c .before .before .before .before .before .before .before .before .before .before .before .before .before .before .before .before .before .before .before .before .before .before .before .before .before .args .x)) (search needs))
+slice-aggregate-serve c =
+    let n = c .before .before .before .before .before .before .before .before .before .before .before .before .before .before in
+    sym (length-take-le (n .number .result) (now (n .before .before .before .before .before .before .before .before .before .before .before .args .x)) (search needs))
 
 slice-relend-prefix-serve-2 : tie.Need-slice-relend-prefix-serve-2
 slice-relend-prefix-serve-2 c = search needs
 
 slice-aggregate-serve-2 : tie.Need-slice-aggregate-serve-2
-slice-aggregate-serve-2 c = sym (length-take-le (c .before .before .before .before .before .before .before .before .before .before .before .before .before .number2 .result) (now (c .before .before .before .before .before .before .before .before .before .before .before .before .before .before .before .before .before .before .before .before .before .before .before .before .before .before .args .y)) (search needs))
+slice-aggregate-serve-2 c =
+    let n = c .before .before .before .before .before .before .before .before .before .before .before .before .before in
+    sym (length-take-le (n .number2 .result) (now (n .before .before .before .before .before .before .before .before .before .before .before .before .before .args .y)) (search needs))
 
 slice-relend-prefix-serve-3 : tie.Need-slice-relend-prefix-serve-3
 slice-relend-prefix-serve-3 c = search needs
 
 slice-aggregate-serve-3 : tie.Need-slice-aggregate-serve-3
-slice-aggregate-serve-3 c = sym (length-take-le (c .before .before .before .before .before .before .before .before .before .before .before .before .number3 .result) (now (c .before .before .before .before .before .before .before .before .before .before .before .before .before .before .before .before .before .before .before .before .before .before .before .before .before .before .before .args .z)) (search needs))
+slice-aggregate-serve-3 c =
+    let n = c .before .before .before .before .before .before .before .before .before .before .before .before in
+    sym (length-take-le (n .number3 .result) (now (n .before .before .before .before .before .before .before .before .before .before .before .before .before .before .before .args .z)) (search needs))
 
 mul-serve : tie.Need-mul-serve
 mul-serve c = search needs
@@ -89,19 +95,24 @@ slice-relend-prefix-serve-4 : tie.Need-slice-relend-prefix-serve-4
 slice-relend-prefix-serve-4 c = search needs
 
 slice-aggregate-serve-4 : tie.Need-slice-aggregate-serve-4
-slice-aggregate-serve-4 c = sym (length-take-le (2 * c .before .before .before .before .before .before .before .before .before .before .before .number4 .result) (now (c .before .before .before .before .before .before .before .before .before .before .before .before .before .before .before .before .before .before .before .before .before .before .before .before .before .before .before .before .args .c)) (search needs))
+slice-aggregate-serve-4 c =
+    let n = c .before .before .before .before .before .before .before .before .before .before .before in
+    sym (length-take-le (2 * n .number4 .result) (now (n .before .before .before .before .before .before .before .before .before .before .before .before .before .before .before .before .before .args .c)) (search needs))
 
 slice-relend-prefix-serve-5 : tie.Need-slice-relend-prefix-serve-5
 slice-relend-prefix-serve-5 c = search needs
 
 slice-aggregate-serve-5 : tie.Need-slice-aggregate-serve-5
-slice-aggregate-serve-5 c = sym (length-take-le (c .before .before .before .before .before .before .before .before .before .before .before .before .number4 .result) (now (c .before .before .before .before .before .before .before .before .before .before .before .before .before .before .before .before .before .before .before .before .before .before .before .before .before .before .before .before .before .args .counters)) (search needs))
+slice-aggregate-serve-5 c =
+    let n = c .before .before .before .before .before .before .before .before .before .before .before .before in
+    sym (length-take-le (n .number4 .result) (now (n .before .before .before .before .before .before .before .before .before .before .before .before .before .before .before .before .before .args .counters)) (search needs))
 
 serve-requires : tie.Need-serve-requires
 serve-requires c κs =
-    let n = c .before .before .before .before .before .before .before .before .before .before .before .before .number4 .result in
-    let a = c .before .before .before .before .before .before .before .before .before .before .before .before .before .before .before .before .before .before .before .before .before .before .before .before .before .before .before .before .before .args in
-    length-take-le (2 * n) (now (a .c)) (search needs) ∙ sym (ap (λ (i : ℕ). 2 * i) (length-take-le n (now (a .counters)) (search needs)))
+    let n = c .before .before .before .before .before .before .before .before .before .before .before .before in
+    let m = n .number4 .result in
+    let a = n .before .before .before .before .before .before .before .before .before .before .before .before .before .before .before .before .before .args in
+    length-take-le (2 * m) (now (a .c)) (search needs) ∙ sym (ap (λ (i : ℕ). 2 * i) (length-take-le m (now (a .counters)) (search needs)))
 
 same-length : tie.Need-same-length
 same-length c = search needs

@@ -1,7 +1,7 @@
--- `sieves::sieve` meets its contract.
+-- `sieves::sieve` meets its contract: by the number that the first call answered, its outcome alone, or those of both calls.
 use borrow.Author.Needs.{needs}
 use denote.Ref.{now}
-use Rattle.sieves.proofs.RanLaws.{ran-both, ran-refused}
+use Rattle.sieves.proofs.RanLaws.{outcome-both, outcome-refused}
 use Rattle.sieves.proofs.sieve.Statement.{statement}
 use Rattle.sieves.proofs.sieve.Tie as tie
 
@@ -22,8 +22,9 @@ same-length-3 c = search needs
 
 returns : tie.Need-returns
 returns c =
-    let a = c .before .before .before .before .before .before .before .before .before .before .before .before .before .args in
-    ran-refused (a .w) (a .h) (a .element) (a .cut) (now (a .image)) (now (a .labels)) (now (a .work)) _ _ _ _ (c .before .before .before .before .before .before .decompose .ensures) (c .before .refusal-of .ensures) (c .if1 .taken)
+    let d = c .before .before .before .before .before .before in
+    let a = d .before .before .before .before .before .before .before .args in
+    outcome-refused (a .w) (a .h) (a .element) (a .cut) (now (a .image)) (now (a .labels)) (now (a .work)) _ _ _ _ (d .decompose .ensures) (c .before .refusal-of .ensures) (c .if1 .taken)
 
 reconstruct-requires : tie.Need-reconstruct-requires
 reconstruct-requires c κs = search needs
@@ -39,8 +40,11 @@ same-length-6 c = search needs
 
 returns-2 : tie.Need-returns-2
 returns-2 c =
-    let a = c .before .before .before .before .before .before .before .before .before .before .before .before .before .before .before .before .before .before .before .before .before .args in
-    ran-both (a .w) (a .h) (a .element) (a .cut) (now (a .image)) (now (a .labels)) (now (a .work)) _ _ _ _ _ _ _ (c .before .before .before .before .before .before .before .before .before .before .before .before .before .before .decompose .ensures) (c .before .before .before .before .before .before .before .before .before .refusal-of .ensures) (c .before .before .before .before .before .before .before .before .if1 .left) (c .before .before .before .before .reconstruct .ensures)
+    let r = c .before .before .before .before in
+    let i = r .before .before .before .before in
+    let d = i .before .before .before .before .before .before in
+    let a = d .before .before .before .before .before .before .before .args in
+    outcome-both (a .w) (a .h) (a .element) (a .cut) (now (a .image)) (now (a .labels)) (now (a .work)) _ _ _ _ _ _ _ (d .decompose .ensures) (i .before .refusal-of .ensures) (i .if1 .left) (r .reconstruct .ensures)
 
 pub sieve-spec : {M : Type 1} → statement M
 sieve-spec =

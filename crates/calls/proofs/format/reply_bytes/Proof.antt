@@ -1,4 +1,4 @@
--- `calls::format::reply_bytes` meets its contract.
+-- `calls::format::reply_bytes` meets its contract, byte by byte of the three values.
 use Rattle.calls.proofs.FormatLaws.{bytes-replied}
 use borrow.Author.Needs.{needs}
 use Rattle.calls.proofs.format.reply_bytes.Statement.{statement}
