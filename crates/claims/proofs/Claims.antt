@@ -99,7 +99,7 @@ settled-cases = settled
 
 -- ---- demand 1
 
-pub answer-accepted : (m : List ℕ) (n : ℕ) → skeletonAnswer m n .refusal ≡ 0
+answer-accepted : (m : List ℕ) (n : ℕ) → skeletonAnswer m n .refusal ≡ 0
 answer-accepted m zero = refl
 answer-accepted m (suc n) = refl
 

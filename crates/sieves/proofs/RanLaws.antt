@@ -6,37 +6,25 @@ use Prim.Native.Nat.{suc, zero, ℕ}
 use native.Mathlib.Nat.{suc-ne-zero}
 use borrow.Author.Tests.{ne-eqb}
 use lib.Dec.{T, eqb}
-use Rattle.claims.specs.Sieves.{Sieve, accepted, isRefused, largestCut, rebuilt, sieveAll, sieveRefused, sieved, takenApart}
+use Rattle.claims.specs.Sieves.{accepted, isRefused, largestCut, rebuilt, sieveAll, sieveRefused, sieved, takenApart}
 use Rattle.claims.specs.Claims.{Sieved}
-use Rattle.claims.proofs.Claims.{answer-accepted, sieve-list}
-use Rattle.claims.proofs.RowLaws.{refuses}
+use Rattle.claims.proofs.Claims.{refuses-exactly, sieve-list}
 use Rattle.morphology.specs.Answers.{Answer, Outcome, outcome, output, refused}
-use Rattle.morphology.specs.Element.{offsets}
-use Rattle.morphology.specs.Image.{imageSet}
-use Rattle.morphology.specs.Lists.{greatest}
-use Rattle.morphology.specs.Operations.{decomposeRows, decomposed, labelled, reconstructRows, reconstructed, writes}
-use Rattle.morphology.specs.Refusals.{firstRefusal, unless}
-use Rattle.morphology.specs.Skeleton.{reconstruction, skeletonLabels}
+use Rattle.morphology.specs.Operations.{decomposed, reconstructed}
+use Rattle.morphology.specs.Refusals.{unless}
+use Rattle.morphology.specs.Skeleton.{reconstruction}
 use Rattle.morphology.proofs.RefusalLaws.{unless-in, unless-refused}
 use Rattle.sieves.specs.Ran.{ListRunsAsClaimed, Ran, RunningSieveList, RunsAsClaimed, handed, handedAll, run, runAll, sieveOutcome, workOf}
 
 -- ---- a refused call leaves its buffers
 
-unless-left : (n : ℕ) (l : List (List ℕ)) (o : Outcome) → o .answer .refusal ≡ 0 → (unless n l o .answer .refusal ≡ 0 → ⊥) → unless n l o .lent ≡ l
-unless-left n l o z f = let r = refuses n l o z in ap (λ (p : Outcome). p .lent) (r .1 (λ e. f (r .0 ∙ e)))
-
 decomposed-left : (W H e : ℕ) (image labels work : List ℕ) → (decomposed W H e image labels work .answer .refusal ≡ 0 → ⊥)
     → decomposed W H e image labels work .lent ≡ labels ∷ work ∷ []
-unfolding decomposed
-decomposed-left W H e image labels work f =
-    let m = skeletonLabels W H (offsets e) (imageSet W H image) in
-    unless-left (firstRefusal (decomposeRows W H e image labels work)) (labels ∷ work ∷ []) (labelled W H m work) (answer-accepted m (greatest m)) f
+decomposed-left W H e image labels work f = ap (λ (o : Outcome). o .lent) (refuses-exactly .decomposition W H e image labels work .unchanged f)
 
 reconstructed-left : (W H e k : ℕ) (labels image work : List ℕ) → (reconstructed W H e k labels image work .answer .refusal ≡ 0 → ⊥)
     → reconstructed W H e k labels image work .lent ≡ image ∷ work ∷ []
-unfolding reconstructed
-reconstructed-left W H e k labels image work f =
-    unless-left (firstRefusal (reconstructRows W H e k labels image work)) (image ∷ work ∷ []) (writes W H (reconstruction W H (offsets e) k labels) work) refl f
+reconstructed-left W H e k labels image work f = ap (λ (o : Outcome). o .lent) (refuses-exactly .reconstruction W H e k labels image work .unchanged f)
 
 -- ---- the calls as they are made
 

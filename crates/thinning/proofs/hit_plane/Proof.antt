@@ -32,7 +32,8 @@ join-mask-requires c κs =
 widen-requires-2 : tie.Need-widen-requires-2
 widen-requires-2 c κs =
     let s = c .before .before .before .before .before .before .before .before .before .before .before .before in
-    mask-of (s .args .fg) (s .args .bg) (s .pre .3) .bg-small
+    let m = mask-of (s .args .fg) (s .args .bg) (s .pre .3) in
+    omega (arith, m .fg-small, m .bg-small)
 
 join-mask-requires-2 : tie.Need-join-mask-requires-2
 join-mask-requires-2 c κs =
