@@ -7,7 +7,7 @@ use native.Mathlib.Nat.{min-le-left, mul-le-mul, suc-mul}
 use native.Mathlib.Omega.{arith}
 use lib.ListN.{drop, length, length-append, length-take, take}
 use Rattle.morphology.specs.Lists.{greatest}
-use Rattle.points.proofs.PointLaws.{greatest-drop, greatest-take}
+use Rattle.label_read.proofs.PointLaws.{greatest-drop, greatest-take}
 use Rattle.listing.specs.Appended.{Room}
 use Rattle.listing.specs.Printed.{longest, refusalText, side, skeletonText}
 use Rattle.listing.specs.Text.{after, decimal, line, lineFeed, mapText, space, spaced}

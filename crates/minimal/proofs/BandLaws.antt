@@ -15,7 +15,7 @@ use Rattle.morphology.specs.Lists.{someOf}
 use Rattle.raster.specs.Limits.{maxFrame, maxStride}
 use Rattle.raster.specs.Rows.{rowBit}
 use Rattle.raster.proofs.RowLaws.{row-in}
-use Rattle.steps.proofs.StepLaws.{zeros-out}
+use Rattle.iteration.proofs.StepLaws.{zeros-out}
 use Rattle.minimal.specs.Bands.{Banded, Blank, Margins, Strip, inkAt}
 use Rattle.minimal.specs.declared.bands.Band.{Band}
 use Rattle.minimal.specs.Moves.{Moved, Open, Twice, Within, below, hits}

@@ -18,7 +18,7 @@ use Rattle.morphology.specs.Point.{Point, at, sameInteger, samePoint}
 use Rattle.morphology.proofs.ImageLaws.{bits-of, getD-row, length-row}
 use Rattle.morphology.proofs.RefusalLaws.{false-of}
 use Rattle.morphology.proofs.TestLaws.{T-ext, and-l, and-r, upto, upto-out}
-use Rattle.steps.specs.Steps.{First}
+use Rattle.iteration.specs.Steps.{First}
 use Rattle.minimal.specs.Covers.{single}
 
 -- ---- one pixel of a byte

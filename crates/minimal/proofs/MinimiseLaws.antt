@@ -23,8 +23,8 @@ use Rattle.morphology.proofs.ReconstructLaws.{kept-on}
 use Rattle.morphology.proofs.RefusalLaws.{T-of-not, first-out, fits-plane, three-out, unless-in, unless-refused}
 use Rattle.refusals.proofs.SideLaws.{sides-frame, sides-of}
 use Rattle.raster.specs.Limits.{maxFrame}
-use Rattle.steps.specs.Steps.{Sheet}
-use Rattle.steps.proofs.StepLaws.{sheet-bytes}
+use Rattle.iteration.specs.Steps.{Sheet}
+use Rattle.iteration.proofs.StepLaws.{sheet-bytes}
 use Rattle.minimal.specs.Minimised.{Passed, Shortened}
 use Rattle.minimal.specs.Sizes.{Begun, Left, Tame}
 

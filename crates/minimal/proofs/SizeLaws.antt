@@ -19,8 +19,8 @@ use Rattle.morphology.proofs.ImageLaws.{Agree, clean-agree, image-agree}
 use Rattle.morphology.proofs.PointLaws.{same-eq}
 use Rattle.morphology.proofs.ReconstructLaws.{times-mono}
 use Rattle.morphology.proofs.TestLaws.{T-ext, and-in, and-l, and-r}
-use Rattle.steps.specs.Steps.{First, dilated}
-use Rattle.steps.proofs.StepLaws.{dilated-is, dilated-more, dilated-on, dilated-start, first-clean, first-image, sheet-bytes}
+use Rattle.iteration.specs.Steps.{First, dilated}
+use Rattle.iteration.proofs.StepLaws.{dilated-is, dilated-more, dilated-on, dilated-start, first-clean, first-image, sheet-bytes}
 use Rattle.minimal.specs.Bands.{Banded, Bounds, inkAt}
 use Rattle.minimal.specs.declared.bands.Band.{Band}
 use Rattle.minimal.specs.Covers.{Stays, single, spread}

@@ -12,7 +12,7 @@ use Rattle.morphology.specs.Lists.{countOf, greatest, upTo}
 use Rattle.morphology.specs.Minimal.{covers}
 use Rattle.morphology.specs.Point.{Point}
 use Rattle.morphology.specs.Refusals.{maxSide}
-use Rattle.steps.specs.Steps.{Sheet}
+use Rattle.iteration.specs.Steps.{Sheet}
 use Rattle.minimal.specs.Covers.{AllStay, Stays, spread}
 
 -- the first plane of work is what a point of size n at place a covers

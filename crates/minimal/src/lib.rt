@@ -43,7 +43,7 @@ fn minimise_refusal(
     if shape != 0 {
         return shape;
     }
-    let wild = wild::is_wild(w as usize, h as usize, element, 0, labels);
+    let wild = containment::is_wild(w as usize, h as usize, element, 0, labels);
     refusals::row(5, wild)
 }
 
@@ -66,7 +66,7 @@ fn minimise_into(
     sizes::count_up(w, h, r, p, element, a, top, &labels[..], work, counters);
     walks::walk(w, h, r, p, element, a, top, labels, work, counters);
     sizes::clear(counters);
-    steps::clear_work(p, work);
+    iteration::clear_work(p, work);
     sizes::points_of(&labels[..])
 }
 

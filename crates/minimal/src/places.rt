@@ -11,7 +11,7 @@ fn past_blocks(labels: &[u8], v: u8, k: usize, from: usize) -> usize
 {
     let mut i = from;
     while labels.len() - i >= k {
-        if points::has_label(&labels[i..i + k], v) {
+        if label_read::has_label(&labels[i..i + k], v) {
             return i;
         }
         i = i + k;

@@ -14,7 +14,7 @@ ghost use Rattle.morphology.specs.Labels.{maxLabel, pointsOf};
 ghost use Rattle.morphology.specs.Lists.{greatest};
 ghost use Rattle.morphology.specs.Morphology.{dilate};
 ghost use Rattle.planes.specs.Frames.{Frame};
-ghost use Rattle.steps.specs.Steps.{First};
+ghost use Rattle.iteration.specs.Steps.{First};
 ghost use Rattle.minimal.specs.Bands.{Banded, inkAt};
 ghost use Rattle.minimal.specs.Covers.{single, counts};
 ghost use Rattle.minimal.specs.Moves.{below, hits, Open, Moved};
@@ -66,7 +66,7 @@ fn count_size(
         count_at(w, h, r, band, a, n, i, labels, &work[..p], counters);
         i = places::next_place(labels, v, i + 1);
     }
-    steps::dilate_step(w, h, r, p, element, work);
+    iteration::dilate_step(w, h, r, p, element, work);
 }
 
 // The first plane emptied but for the pixel of place a.
@@ -85,7 +85,7 @@ pub fn tallest(labels: &[u8]) -> usize
     requires { ⌜ 0 < length (now labels) ⌝ }
     ensures { λ a. ⌜ (a < length (now (labels .entry))) × (getD (now (labels .entry)) a 0 ≡ greatest (now (labels .entry))) ⌝ }
 {
-    let top = points::greatest(labels);
+    let top = label_read::greatest(labels);
     places::next_place(labels, top, 0)
 }
 

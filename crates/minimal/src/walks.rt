@@ -12,7 +12,7 @@ ghost use Rattle.morphology.specs.Image.{imageSet, clip};
 ghost use Rattle.morphology.specs.Labels.{maxLabel};
 ghost use Rattle.morphology.specs.Minimal.{minimalLabels};
 ghost use Rattle.morphology.specs.Morphology.{dilate};
-ghost use Rattle.steps.specs.Steps.{First};
+ghost use Rattle.iteration.specs.Steps.{First};
 ghost use Rattle.minimal.specs.Bands.{Banded, inkAt};
 ghost use Rattle.minimal.specs.Covers.{counts};
 ghost use Rattle.minimal.specs.Moves.{below, Within};
@@ -70,7 +70,7 @@ fn walk_size(
         step(w, h, r, band, a, n, i, labels, &work[..p], counters);
         i = places::next_place(&labels[..], v, i + 1);
     }
-    steps::dilate_step(w, h, r, p, element, work);
+    iteration::dilate_step(w, h, r, p, element, work);
 }
 
 // Walks the sizes, from the smallest to the largest.

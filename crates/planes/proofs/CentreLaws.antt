@@ -15,9 +15,9 @@ use Rattle.raster.specs.Rows.{RowIs, join, rowBit}
 use Rattle.raster.proofs.ByteLaws.{full-bit}
 use Rattle.raster.proofs.PartLaws.{PartIs, part-back, part-bit}
 use Rattle.raster.proofs.RowLaws.{row-in}
-use Rattle.strips.specs.Neighbours.{PlaneIs, PlaneJoined, fiveOf, joined, nearBit, neighbours, turned}
+use Rattle.neighbours.specs.Neighbours.{PlaneIs, PlaneJoined, fiveOf, joined, nearBit, neighbours, turned}
 use Rattle.planes.specs.Begun.{Begun, RowsTo, startByte}
-use Rattle.strips.proofs.NeighbourLaws.{join-assoc, join-comm, join-unit, joined-same, near-same, unit-join, zeros-bit}
+use Rattle.neighbours.proofs.NeighbourLaws.{join-assoc, join-comm, join-unit, joined-same, near-same, unit-join, zeros-bit}
 
 -- v joined at q alone
 joined-add : (t : Bool) (n q : ℕ) (v : Bool) (f g : ℕ → Bool) → q < n → ((i : ℕ) → i < n → (i ≡ q → ⊥) → f i ≡ g i) → f q ≡ join t v (g q)

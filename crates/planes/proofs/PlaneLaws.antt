@@ -25,7 +25,7 @@ use Rattle.raster.specs.Rows.{overwrite, rowBit}
 use Rattle.raster.proofs.PartLaws.{cut-bit, part-bytes, drop-overwrite, length-overwrite, overwrite-is, overwrite-rest}
 use Rattle.raster.proofs.RowLaws.{row-in}
 use Rattle.planes.specs.Frames.{Frame, morphed}
-use Rattle.strips.specs.Neighbours.{PlaneIs, nearBit, neighbours}
+use Rattle.neighbours.specs.Neighbours.{PlaneIs, nearBit, neighbours}
 use Rattle.planes.specs.Begun.{RowsTo}
 use Rattle.planes.proofs.SetLaws.{near-image, neighbours-set, pack-pixels}
 

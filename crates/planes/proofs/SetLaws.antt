@@ -25,8 +25,8 @@ use Rattle.morphology.proofs.TestLaws.{T-ext, all-out}
 use Rattle.raster.specs.Rows.{join, rowBit}
 use Rattle.raster.proofs.RowLaws.{rowBit-at}
 use Rattle.planes.specs.Frames.{morphed}
-use Rattle.strips.specs.Neighbours.{fiveOf, joined, nearBit, neighbours, turned}
-use Rattle.strips.proofs.NeighbourLaws.{join-assoc, join-comm, join-unit}
+use Rattle.neighbours.specs.Neighbours.{fiveOf, joined, nearBit, neighbours, turned}
+use Rattle.neighbours.proofs.NeighbourLaws.{join-assoc, join-comm, join-unit}
 
 -- ---- from rows to sets
 

@@ -6,7 +6,7 @@ use Prim.Native.Nat.{_*_, _+_, _<_, _≤_, ℕ}
 use lib.Dec.{ltb}
 use lib.ListN.{getD, length}
 use Rattle.raster.specs.Rows.{join, rowBit}
-use Rattle.strips.specs.Neighbours.{nearBit, neighbours}
+use Rattle.neighbours.specs.Neighbours.{nearBit, neighbours}
 
 -- the byte of eight pixels that change nothing when they are joined
 abbrev pub startByte : Bool → ℕ

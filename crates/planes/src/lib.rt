@@ -9,7 +9,7 @@ ghost use Rattle.morphology.specs.Image.{imageSet, pack, isClean, clip};
 ghost use Rattle.morphology.specs.Morphology.{erode, dilate, opening};
 ghost use Rattle.raster.specs.Limits.{maxFrame, maxStride};
 ghost use Rattle.raster.specs.Rows.{rowBit, overwrite};
-ghost use Rattle.strips.specs.Neighbours.{PlaneIs};
+ghost use Rattle.neighbours.specs.Neighbours.{PlaneIs};
 ghost use Rattle.planes.specs.Frames.{Frame};
 ghost use Rattle.planes.specs.Begun.{startByte, Begun, RowsTo};
 
@@ -65,7 +65,7 @@ fn morph_plane(
 {
     let rest = begin_plane(dilating, work, p, r, h, element);
     let none = [0u8; 1];
-    strips::join_plane(dilating, false, true, &none, work, p, r, h, rest);
+    neighbours::join_plane(dilating, false, true, &none, work, p, r, h, rest);
     clear_rows(work, p, w, r, h);
 }
 

@@ -15,7 +15,7 @@ use Rattle.morphology.specs.Point.{Point}
 use Rattle.morphology.specs.Refusals.{Row, firstRefusal, notPlane, shortWork, unless}
 use Rattle.morphology.proofs.RefusalLaws.{T-of-not, first-out, fits-plane, three-out, unless-in, unless-refused}
 use Rattle.refusals.proofs.SideLaws.{sides-frame, sides-of}
-use Rattle.steps.specs.Steps.{Ready, Wrote}
+use Rattle.iteration.specs.Steps.{Ready, Wrote}
 
 module _ (W H e n : ℕ) (image out work : List ℕ) where
   pub fold-ready : firstRefusal (foldRows W H e n image out work) ≡ 0 → Ready W H image out work × T (isElement e)

@@ -8,7 +8,7 @@ ghost use Rattle.morphology.specs.Image.{imageSet};
 ghost use Rattle.morphology.specs.Morphology.{erode as erodeSet, opening, times};
 ghost use Rattle.morphology.specs.Operations.{eroded, opened, decomposed, reconstructed, foldRows, decomposeRows, reconstructRows};
 ghost use Rattle.morphology.specs.Refusals.{firstRefusal, notPlane, shortWork, row1, row2, row3, row4};
-ghost use Rattle.steps.specs.Steps.{Wrote, Ready};
+ghost use Rattle.iteration.specs.Steps.{Wrote, Ready};
 ghost use Rattle.skeleton.specs.Decomposed.{answerOf as decomposedAnswer};
 ghost use Rattle.skeleton.specs.Written.{answerOf};
 
@@ -63,8 +63,8 @@ fn erode_into(
     let r = (w + 7) / 8;
     let p = h * r;
     raster::copy(image, &mut work[..p]);
-    steps::erode_times(w, h, r, p, element, n, work);
-    steps::hand_out(p, out, work)
+    iteration::erode_times(w, h, r, p, element, n, work);
+    iteration::hand_out(p, out, work)
 }
 
 // An image that is not refused, opened by the n-fold element into out.
@@ -83,9 +83,9 @@ fn open_into(
     let r = (w + 7) / 8;
     let p = h * r;
     raster::copy(image, &mut work[..p]);
-    steps::erode_times(w, h, r, p, element, n, work);
-    steps::dilate_times(w, h, r, p, element, n, work);
-    steps::hand_out(p, out, work)
+    iteration::erode_times(w, h, r, p, element, n, work);
+    iteration::dilate_times(w, h, r, p, element, n, work);
+    iteration::hand_out(p, out, work)
 }
 
 // Erosion by the n-fold element: from image into out.
@@ -151,7 +151,7 @@ pub fn decompose(
     if row != 0 {
         return Decomposed::Refused(row);
     }
-    let found = turns::decompose_into(w as usize, h as usize, element, image, labels, work);
+    let found = decomposition::decompose_into(w as usize, h as usize, element, image, labels, work);
     let turns = found.turns;
     if turns == 0 {
         return Decomposed::Blank;
@@ -181,7 +181,7 @@ fn reconstruct_refusal(
     if shape != 0 {
         return shape;
     }
-    let wild = wild::is_wild(w as usize, h as usize, element, cut, labels);
+    let wild = containment::is_wild(w as usize, h as usize, element, cut, labels);
     let leaves = refusals::row(5, wild);
     let over = refusals::row(7, refusals::above_max(cut));
     refusals::first(leaves, over)
@@ -203,6 +203,14 @@ pub fn reconstruct(
     if no != 0 {
         return Written::Refused(no);
     }
-    let ink = gathers::reconstruct_into(w as usize, h as usize, element, cut, labels, image, work);
+    let ink = reconstruction::reconstruct_into(
+        w as usize,
+        h as usize,
+        element,
+        cut,
+        labels,
+        image,
+        work,
+    );
     Written::Area(ink)
 }

@@ -15,8 +15,8 @@ use Rattle.morphology.proofs.RefusalLaws.{T-of-not, first-out, fits-plane, or-o
 use Rattle.planes.specs.Frames.{Frame}
 use Rattle.planes.proofs.PlaneLaws.{frame-bytes}
 use Rattle.refusals.proofs.SideLaws.{sides-frame, sides-of}
-use Rattle.steps.specs.Steps.{Ready}
-use Rattle.steps.proofs.StepLaws.{sheet-small}
+use Rattle.iteration.specs.Steps.{Ready}
+use Rattle.iteration.proofs.StepLaws.{sheet-small}
 
 -- row 3 of two lengths
 two-out : (a b : Bool) → row3 (a ∷ b ∷ []) .1 ≡ false → (a ≡ false) × (b ≡ false)

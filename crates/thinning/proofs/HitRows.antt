@@ -16,10 +16,10 @@ use Rattle.morphology.specs.Thinning.{hit}
 use Rattle.morphology.proofs.TestLaws.{upto, upto-out}
 use Rattle.raster.specs.Rows.{rowBit}
 use Rattle.planes.specs.Frames.{Frame}
-use Rattle.strips.specs.Neighbours.{PlaneJoined, nearBit, neighbours, sourceBit}
+use Rattle.neighbours.specs.Neighbours.{PlaneJoined, nearBit, neighbours, sourceBit}
 use Rattle.planes.proofs.CentreLaws.{near-itself, origin-less}
 use Rattle.planes.proofs.PlaneLaws.{frame-bytes}
-use Rattle.strips.proofs.JoinLaws.{plane-more}
+use Rattle.neighbours.proofs.JoinLaws.{plane-more}
 use Rattle.planes.proofs.SetLaws.{near-image, neighbours-set, pack-pixels}
 use Rattle.thinning.specs.Hits.{hits, widened}
 use Rattle.thinning.proofs.MaskLaws.{Accepted, mask-of}

@@ -2,7 +2,7 @@
 -- Definitions only; proofs/HitRows.antt has the laws.
 use mathlib.Core.Bool.{Bool, _&&_, false, not}
 use Prim.Native.Nat.{_%_, _*_, _+_, _/_, ℕ}
-use Rattle.strips.specs.Neighbours.{neighbours}
+use Rattle.neighbours.specs.Neighbours.{neighbours}
 
 -- a mask's number as an element's: three bits of each row in the middle of five (`widened-offsets`)
 abbrev pub widened : ℕ → ℕ

@@ -12,7 +12,7 @@ ghost use Rattle.morphology.specs.Operations.{hitOrMiss, hitRows, thinRows, thi
 ghost use Rattle.morphology.specs.Refusals.{firstRefusal, row6};
 ghost use Rattle.morphology.specs.Thinning.{hit, golayL, thinStep, thinPass};
 ghost use Rattle.planes.specs.Frames.{Frame};
-ghost use Rattle.steps.specs.Steps.{Sheet};
+ghost use Rattle.iteration.specs.Steps.{Sheet};
 ghost use Rattle.thinning.specs.Hits.{widened};
 ghost use Rattle.thinning.specs.Passes.{Leaves, Ended};
 ghost use Rattle.thinning.specs.Hit.{answerOf};
@@ -86,8 +86,8 @@ fn hit_plane(w: usize, h: usize, r: usize, fg: u32, bg: u32, image: &[u8], out: 
     ensures { λ _. ⌜ now (out .exit) ≡ pack w h (hit (fg, bg) (imageSet w h (now (image .entry)))) ⌝ }
 {
     raster::copy(image, out);
-    strips::join_mask(false, image, out, r, h, widen(fg) - ORIGIN);
-    strips::join_mask(true, image, out, r, h, widen(bg));
+    neighbours::join_mask(false, image, out, r, h, widen(fg) - ORIGIN);
+    neighbours::join_mask(true, image, out, r, h, widen(bg));
 }
 
 // Row 6: a mask has a bit above 8, lacks the centre in the foreground, or its two numbers overlap.
@@ -209,7 +209,7 @@ pub fn thin(w: u32, h: u32, image: &mut [u8], work: &mut [u8]) -> Thinned
     let r = (w as usize + 7) / 8;
     let p = h as usize * r;
     let tally = thin_passes(w as usize, h as usize, r, p, image, work);
-    steps::clear_work(p, work);
+    iteration::clear_work(p, work);
     Thinned::Done {
         passes: tally.passes,
         removed: tally.removed,

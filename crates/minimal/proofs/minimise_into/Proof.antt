@@ -5,7 +5,7 @@ use native.Mathlib.Omega.{arith}
 use borrow.Author.Needs.{needs}
 use denote.Ref.{now}
 use lib.ListN.{replicate}
-use Rattle.steps.proofs.StepLaws.{sheet-small}
+use Rattle.iteration.proofs.StepLaws.{sheet-small}
 use Rattle.minimal.proofs.MinimiseLaws.{passed-begun, passed-cleared, passed-few, passed-planes, passed-sheet, passed-some}
 use Rattle.minimal.proofs.minimise_into.Statement.{statement}
 use Rattle.minimal.proofs.minimise_into.Tie as tie

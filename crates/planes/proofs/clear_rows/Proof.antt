@@ -7,8 +7,8 @@ use denote.Ref.{now}
 use lib.Dec.{ltb}
 use lib.ListN.{drop, length, length-drop}
 use lib.Seq.{length-take-le}
-use Rattle.strips.specs.Neighbours.{PlaneIs}
-use Rattle.strips.proofs.JoinLaws.{rows-more, rows-none}
+use Rattle.neighbours.specs.Neighbours.{PlaneIs}
+use Rattle.neighbours.proofs.JoinLaws.{rows-more, rows-none}
 use Rattle.raster.specs.Rows.{rowBit}
 use Rattle.raster.proofs.PartLaws.{pixelwise-part}
 use Rattle.raster.proofs.RowLaws.{row-at}

@@ -9,7 +9,7 @@ use Rattle.morphology.specs.Operations.{decomposeRows, decomposed, labelled}
 use Rattle.morphology.specs.Skeleton.{skeletonLabels}
 use Rattle.morphology.proofs.DecomposeLaws.{turns-blank, turns-skeleton}
 use Rattle.skeleton.proofs.FoldLaws.{checked-refused}
-use Rattle.turns.proofs.TurnLaws.{decompose-ready, finished-outcome, some-turn}
+use Rattle.decomposition.proofs.TurnLaws.{decompose-ready, finished-outcome, some-turn}
 use Rattle.skeleton.proofs.decompose.Statement.{statement}
 use Rattle.skeleton.proofs.decompose.Tie as tie
 

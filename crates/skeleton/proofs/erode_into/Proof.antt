@@ -13,7 +13,7 @@ use Rattle.morphology.specs.Point.{Point}
 use Rattle.morphology.proofs.DecomposeLaws.{eroded-on}
 use Rattle.morphology.proofs.ElementLaws.{element}
 use Rattle.morphology.proofs.ImageLaws.{image-on}
-use Rattle.steps.proofs.StepLaws.{first-as, loaded, ready-sheet, sheet-bytes, sheet-small, wrote}
+use Rattle.iteration.proofs.StepLaws.{first-as, loaded, ready-sheet, sheet-bytes, sheet-small, wrote}
 use Rattle.skeleton.proofs.erode_into.Statement.{statement}
 use Rattle.skeleton.proofs.erode_into.Tie as tie
 

@@ -14,7 +14,7 @@ use Rattle.morphology.proofs.DecomposeLaws.{eroded-on}
 use Rattle.morphology.proofs.ElementLaws.{element}
 use Rattle.morphology.proofs.ImageLaws.{image-on}
 use Rattle.morphology.proofs.SkeletonLaws.{open-on}
-use Rattle.steps.proofs.StepLaws.{first-as, first-clean, loaded, opened-first, ready-sheet, sheet-bytes, sheet-small, wrote}
+use Rattle.iteration.proofs.StepLaws.{first-as, first-clean, loaded, opened-first, ready-sheet, sheet-bytes, sheet-small, wrote}
 use Rattle.skeleton.proofs.open_into.Statement.{statement}
 use Rattle.skeleton.proofs.open_into.Tie as tie
 

@@ -7,7 +7,7 @@ use Rattle.morphology.specs.Element.{offsets}
 use Rattle.morphology.specs.Operations.{reconstructRows, reconstructed, writes}
 use Rattle.morphology.specs.Skeleton.{reconstruction}
 use Rattle.skeleton.proofs.FoldLaws.{checked-refused, writes-done}
-use Rattle.gathers.proofs.GatherLaws.{kept-ready}
+use Rattle.reconstruction.proofs.GatherLaws.{kept-ready}
 use Rattle.skeleton.proofs.reconstruct.Statement.{statement}
 use Rattle.skeleton.proofs.reconstruct.Tie as tie
 

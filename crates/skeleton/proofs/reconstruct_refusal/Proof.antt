@@ -8,7 +8,7 @@ use Rattle.morphology.specs.Element.{offsets}
 use Rattle.morphology.specs.Refusals.{row5, row7}
 use Rattle.morphology.proofs.RefusalLaws.{first-both, first-passed, first-refused, first-row}
 use Rattle.refusals.proofs.SideLaws.{sides-frame}
-use Rattle.gathers.proofs.GatherLaws.{shape-is, shaped, shapeRows}
+use Rattle.reconstruction.proofs.GatherLaws.{shape-is, shaped, shapeRows}
 use Rattle.skeleton.proofs.reconstruct_refusal.Statement.{statement}
 use Rattle.skeleton.proofs.reconstruct_refusal.Tie as tie
 

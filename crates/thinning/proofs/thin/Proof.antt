@@ -3,7 +3,7 @@ use mathlib.Core.Path.{_∙_, sym}
 use native.Mathlib.Omega.{arith}
 use borrow.Author.Needs.{needs}
 use denote.Ref.{now}
-use Rattle.steps.proofs.StepLaws.{ready-sheet, sheet-bytes, sheet-small}
+use Rattle.iteration.proofs.StepLaws.{ready-sheet, sheet-bytes, sheet-small}
 use Rattle.thinning.proofs.CallLaws.{thin-ready}
 use Rattle.thinning.proofs.EndLaws.{thin-done}
 use Rattle.thinning.proofs.ThinTurns.{thin-refused}

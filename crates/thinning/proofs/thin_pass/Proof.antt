@@ -6,7 +6,7 @@ use denote.Ref.{now}
 use Rattle.morphology.specs.Element.{isMask}
 use Rattle.morphology.specs.Lists.{tabulate}
 use Rattle.morphology.proofs.PlaneLaws.{Plane}
-use Rattle.steps.proofs.StepLaws.{sheet-bytes}
+use Rattle.iteration.proofs.StepLaws.{sheet-bytes}
 use Rattle.thinning.specs.Passes.{Leaves}
 use Rattle.thinning.proofs.PassLaws.{entry-is, masks-plane, pass-done, pass-start, pass-turn, takes-all, takes-entry}
 use Rattle.thinning.proofs.ThinTurns.{masksBelow}

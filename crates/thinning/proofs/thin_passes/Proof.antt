@@ -3,7 +3,7 @@ use mathlib.Core.Path.{_∙_, sym}
 use native.Mathlib.Omega.{arith}
 use denote.Ref.{now}
 use Rattle.morphology.proofs.PlaneLaws.{Plane}
-use Rattle.steps.proofs.StepLaws.{sheet-bytes, sheet-small}
+use Rattle.iteration.proofs.StepLaws.{sheet-bytes, sheet-small}
 use Rattle.thinning.proofs.EndLaws.{Running, counted, pass-plane, points-small, running-end, running-less, running-start, running-turn}
 use Rattle.thinning.proofs.thin_passes.Statement.{statement}
 use Rattle.thinning.proofs.thin_passes.Tie as tie

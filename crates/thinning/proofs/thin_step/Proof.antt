@@ -5,7 +5,7 @@ use denote.Ref.{now}
 use lib.Seq.{length-take-le}
 use Rattle.morphology.specs.Image.{imageSet}
 use Rattle.morphology.specs.Thinning.{hit}
-use Rattle.steps.proofs.StepLaws.{sheet-bytes}
+use Rattle.iteration.proofs.StepLaws.{sheet-bytes}
 use Rattle.thinning.proofs.PassLaws.{front-size, step-leaves}
 use Rattle.thinning.proofs.thin_step.Statement.{statement}
 use Rattle.thinning.proofs.thin_step.Tie as tie

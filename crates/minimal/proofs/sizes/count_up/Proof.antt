@@ -7,7 +7,7 @@ use borrow.Author.Needs.{needs}
 use denote.Ref.{now}
 use lib.ListN.{length, replicate}
 use Rattle.morphology.specs.Element.{offsets}
-use Rattle.steps.specs.Steps.{First, dilated}
+use Rattle.iteration.specs.Steps.{First, dilated}
 use Rattle.minimal.specs.Covers.{single}
 use Rattle.minimal.specs.Sizes.{Counting}
 use Rattle.minimal.proofs.CountingLaws.{counting-last, counting-length, counting-start}

@@ -8,7 +8,7 @@ use denote.Ref.{now}
 use lib.ListN.{length}
 use Rattle.morphology.specs.Element.{offsets}
 use Rattle.morphology.specs.Minimal.{minimalBelow}
-use Rattle.steps.specs.Steps.{First, dilated}
+use Rattle.iteration.specs.Steps.{First, dilated}
 use Rattle.minimal.specs.Covers.{counts, single}
 use Rattle.minimal.proofs.CoverCountLaws.{counts-length}
 use Rattle.minimal.proofs.SizeLaws.{begun-first, begun-left, begun-next, begun-shape}

@@ -1,0 +1,111 @@
+-- `decomposition::decompose_into` meets its contract.
+use mathlib.Core.Path.{_∙_, ap, sym}
+use Prim.Native.Nat.{_*_, _+_, _/_, ℕ}
+use native.Mathlib.Omega.{arith}
+use borrow.Author.Needs.{needs}
+use denote.Ref.{now}
+use lib.ListN.{replicate}
+use lib.Seq.{length-take-le}
+use Rattle.decomposition.proofs.TurnLaws.{finished-as}
+use Rattle.iteration.proofs.StepLaws.{loaded, ready-sheet, rest-cleared, sheet-bytes, sheet-small}
+use Rattle.decomposition.proofs.decompose_into.Statement.{statement}
+use Rattle.decomposition.proofs.decompose_into.Tie as tie
+
+add-r : tie.Need-add-r
+add-r c = search needs
+
+mul-p : tie.Need-mul-p
+mul-p c =
+    let s = c .before .before .before in
+    let a = s .args in
+    let k = ready-sheet (s .pre .0) in
+    let q = sheet-bytes k in
+    let p = a .h * ((a .w + 7) / 8) in
+    omega (arith, sheet-small k)
+
+slice-relend-prefix-copy : tie.Need-slice-relend-prefix-copy
+slice-relend-prefix-copy c =
+    let s = c .before .before .before in
+    let a = s .args in
+    let k = ready-sheet (s .pre .0) in
+    let q = sheet-bytes k in
+    let p = a .h * ((a .w + 7) / 8) in
+    omega (arith, s .pre .0 .work, q)
+
+slice-aggregate-copy : tie.Need-slice-aggregate-copy
+slice-aggregate-copy c =
+    let s = c .before .before .before .before in
+    let a = s .args in
+    let k = ready-sheet (s .pre .0) in
+    let q = sheet-bytes k in
+    let p = a .h * ((a .w + 7) / 8) in
+    sym (length-take-le p (now (a .work)) (omega (arith, s .pre .0 .work, q)))
+
+copy-requires : tie.Need-copy-requires
+copy-requires c κs =
+    let s = c .before .before .before .before in
+    let a = s .args in
+    let k = ready-sheet (s .pre .0) in
+    let q = sheet-bytes k in
+    let p = a .h * ((a .w + 7) / 8) in
+    s .pre .0 .image ∙ sym q ∙ sym (length-take-le p (now (a .work)) (omega (arith, s .pre .0 .work, q)))
+
+fill-requires : tie.Need-fill-requires
+fill-requires c κs = search needs
+
+take-turns-requires : tie.Need-take-turns-requires
+take-turns-requires c κs =
+    let s = c .before .before .before .before .before .before .before .before .before .before .before .before .before in
+    let a = s .args in
+    let k = ready-sheet (s .pre .0) in
+    let q = sheet-bytes k in
+    let p = a .h * ((a .w + 7) / 8) in
+    let v = loaded (a .w) (a .h) p (now (a .image)) (now (a .image)) (now (a .work)) _ q (s .pre .0) (c .before .before .before .before .before .before .before .before .copy .ensures) in
+    (k, s .pre .1, s .pre .2, omega (arith, v .size, s .pre .0 .work, q), c .before .before .before .before .fill .ensures ∙ ap (λ (n : ℕ). replicate n 0) (s .pre .3), s .pre .4, v .clean)
+
+clear-work-requires : tie.Need-clear-work-requires
+clear-work-requires c κs =
+    let s = c .before .before .before .before .before .before .before .before .before .before .before .before .before .before .before .before .before .before .before in
+    let a = s .args in
+    let k = ready-sheet (s .pre .0) in
+    let q = sheet-bytes k in
+    let p = a .h * ((a .w + 7) / 8) in
+    let v = loaded (a .w) (a .h) p (now (a .image)) (now (a .image)) (now (a .work)) _ q (s .pre .0) (c .before .before .before .before .before .before .before .before .before .before .before .before .before .before .copy .ensures) in
+    (omega (arith, v .size, c .before .before .before .before .before .take-turns .ensures .size, s .pre .0 .work, q), sheet-small k)
+
+same-length : tie.Need-same-length
+same-length c = search needs
+
+same-length-2 : tie.Need-same-length-2
+same-length-2 c = search needs
+
+returns : tie.Need-returns
+returns c =
+    let s = c .before .before .before .before .before .before .before .before .before .before .before .before .before .before .before .before .before .before .before .before .before .before in
+    let a = s .args in
+    let k = ready-sheet (s .pre .0) in
+    let q = sheet-bytes k in
+    let p = a .h * ((a .w + 7) / 8) in
+    let v = loaded (a .w) (a .h) p (now (a .image)) (now (a .image)) (now (a .work)) _ q (s .pre .0) (c .before .before .before .before .before .before .before .before .before .before .before .before .before .before .before .before .before .copy .ensures) in
+    let t = c .before .before .before .before .before .before .before .before .take-turns .ensures in
+    let w = c .before .before .before .before .before .before .before .before .take-turns .last .1 .1 .1 .1 .1 .1 .0 in (
+      finished-as (v .set) (t .finished),
+      c .before .before .clear-work .ensures
+          ∙ rest-cleared (a .w) (a .h) p (now (a .image)) (now (a .work)) _ w q (s .pre .0 .image ∙ sym q) (c .before .before .before .before .before .before .before .before .before .before .before .before .before .before .before .before .before .copy .ensures) (t .rest),
+    )
+
+pub decompose-into-spec : {M : Type 1} → statement M
+decompose-into-spec =
+    tie.close
+    (tie.spec
+    add-r
+    mul-p
+    slice-relend-prefix-copy
+    slice-aggregate-copy
+    copy-requires
+    fill-requires
+    take-turns-requires
+    clear-work-requires
+    same-length
+    same-length-2
+    returns)

@@ -1,0 +1,120 @@
+// The turns of a decomposition: labels of an image by size.
+mod bands;
+
+ghost use mathlib.Core.Path.{_≡_};
+ghost use Prim.Native.Nat.{_+_, _*_, _≤_};
+ghost use lib.Dec.{T};
+ghost use lib.ListN.{length, replicate, take};
+ghost use Rattle.morphology.specs.Element.{offsets, isElement};
+ghost use Rattle.morphology.specs.Image.{imageSet, isClean};
+ghost use Rattle.morphology.specs.Labels.{maxLabel};
+ghost use Rattle.morphology.specs.Operations.{cleared};
+ghost use Rattle.planes.specs.Frames.{Frame};
+ghost use Rattle.iteration.specs.Steps.{Sheet, Ready};
+ghost use Rattle.decomposition.specs.Bands.{Banded};
+ghost use Rattle.decomposition.specs.Turns.{Turned, Stepped, Took, Finished};
+
+// What the turns of a decomposition found: the points, and how many turns had one.
+pub struct Found {
+    pub points: u32,
+    pub turns: u32,
+}
+
+// One turn of a decomposition: the first plane eroded, and v at its points that its opening lacks. Answers how many.
+fn turn(
+    w: usize,
+    h: usize,
+    r: usize,
+    p: usize,
+    element: u32,
+    v: u8,
+    labels: &mut [u8],
+    work: &mut [u8],
+) -> u32
+    requires { ⌜ Frame w h r × (h * r ≤ p) × (p + p + h * r ≤ length (now work)) × (length (now labels) ≡ w * h) × T (isElement element) × T (isClean w h (now work)) ⌝ }
+    ensures { λ n. ⌜ Turned w h p (offsets element) v (now (work .entry)) (now (work .exit)) (now (labels .entry)) (now (labels .exit)) n ⌝ }
+{
+    planes::open_plane(w, h, r, p, element, work);
+    let n = label_write::label_plane(&work[..], w, h, r, p + p, v, labels);
+    raster::copy_down(work, p, h * r);
+    n
+}
+
+// A turn on the rows from..to alone, outside of which the first plane is empty.
+fn turn_band(
+    w: usize,
+    h: usize,
+    r: usize,
+    from: usize,
+    to: usize,
+    element: u32,
+    v: u8,
+    labels: &mut [u8],
+    work: &mut [u8],
+) -> u32
+    requires { ⌜ Frame w h r × (3 * (h * r) ≤ length (now work)) × (length (now labels) ≡ w * h) × T (isElement element) × T (isClean w h (now work)) × Banded h r from to (take (h * r) (now work)) ⌝ }
+    ensures { λ n. ⌜ Stepped w h (h * r) (offsets element) v (now (work .entry)) (now (work .exit)) (now (labels .entry)) (now (labels .exit)) n ⌝ }
+{
+    let rows = to - from;
+    let at = from * w;
+    turn(
+        w,
+        rows,
+        r,
+        h * r,
+        element,
+        v,
+        &mut labels[at..at + rows * w],
+        &mut work[from * r..],
+    )
+}
+
+// Turns until the first plane is empty, each on the rows that still hold ink; turn n writes n + 1.
+fn take_turns(
+    w: usize,
+    h: usize,
+    r: usize,
+    p: usize,
+    element: u32,
+    labels: &mut [u8],
+    work: &mut [u8],
+) -> Found
+    requires { ⌜ Sheet w h r p × (w ≤ maxLabel) × (h ≤ maxLabel) × (3 * p ≤ length (now work)) × (now labels ≡ replicate (w * h) 0)
+        × T (isElement element) × T (isClean w h (now work)) ⌝ }
+    ensures { λ f. ⌜ Took w h p (offsets element) (imageSet w h (now (work .entry))) (f .turns) (now (work .entry)) (now (work .exit)) (now (labels .exit)) (f .points) ⌝ }
+{
+    let mut points: u32 = 0;
+    let mut n: u32 = 0;
+    let mut from = bands::first_row(&work[..p], r, 0, h);
+    let mut to = bands::end_row(&work[..p], r, from, h);
+    while from < to {
+        let new = turn_band(w, h, r, from, to, element, (n + 1) as u8, labels, work);
+        points = points + new;
+        n = n + 1;
+        from = bands::first_row(&work[..p], r, from, to);
+        to = bands::end_row(&work[..p], r, from, to);
+    }
+    Found { points, turns: n }
+}
+
+// An image that is not refused, decomposed into labels.
+pub fn decompose_into(
+    w: usize,
+    h: usize,
+    element: u32,
+    image: &[u8],
+    labels: &mut [u8],
+    work: &mut [u8],
+) -> Found
+    requires { ⌜ Ready w h (now image) (now image) (now work) × (w ≤ maxLabel) × (h ≤ maxLabel) × (length (now labels) ≡ w * h) × T (isElement element) ⌝ }
+    ensures done { λ f. ⌜ Finished w h (offsets element) (imageSet w h (now (image .entry))) (f .turns) (now (labels .exit)) (f .points) ⌝ }
+    ensures work { λ f. ⌜ now (work .exit) ≡ cleared w h (now (work .entry)) ⌝ }
+{
+    let r = (w + 7) / 8;
+    let p = h * r;
+    raster::copy(image, &mut work[..p]);
+    raster::fill(labels, 0);
+    let found = take_turns(w, h, r, p, element, labels, work);
+    iteration::clear_work(p, work);
+    found
+}

@@ -1,0 +1,242 @@
+-- Erosions and dilations in the first plane of work, one after the other.
+use mathlib.Core.Bool.{Bool, _||_, false, not, true}
+use mathlib.Core.List.{List, [], _++_, _∷_}
+use mathlib.Core.Path.{_∙_, _≡_, ap, ap₂, refl, subst, sym}
+use Prim.Native.Nat.{_*_, _+_, _/_, _<_, _^_, _≤_, suc, zero, ℕ}
+use native.Mathlib.Nat.{le-refl, min-le-left, mul-le-mul-right}
+use native.Mathlib.Numerals.{add-one}
+use native.Mathlib.Omega.{arith}
+use borrow.Author.Tests.{eqb-true}
+use lib.Dec.{T, eqb}
+use lib.ListN.{List·getD-append, drop, getD, length, length-append, length-drop, length-take, replicate, take}
+use lib.Seq.{drop-at, drop-drop, getD-take, length-take-le, take-at}
+use Rattle.morphology.specs.Element.{isElement, offsets}
+use Rattle.morphology.specs.Image.{clip, imageSet, isClean, onFrame, onesOf, pack, planeBytes, stride}
+use Rattle.morphology.specs.Lists.{someOf}
+use Rattle.morphology.specs.Morphology.{dilate, erode, opening, times}
+use Rattle.morphology.specs.Operations.{cleared}
+use Rattle.morphology.specs.Point.{Point}
+use Rattle.morphology.proofs.DecomposeLaws.{eroded-on}
+use Rattle.morphology.proofs.ElementLaws.{element}
+use Rattle.morphology.proofs.FoldTurns.{dilate-empty, eroded-stop, eroded-turn, opened-on}
+use Rattle.morphology.proofs.FrameLaws.{OnFrame}
+use Rattle.morphology.proofs.ImageLaws.{Agree, clean-agree, clean-pack, clip-is, clip-on, image-agree, image-pack, length-pack, pack-image}
+use Rattle.morphology.proofs.MorphologyLaws.{dilate-sum, dilate-zero}
+use Rattle.morphology.proofs.PlaneLaws.{Empty, area-pack, empty-pack, pack-empty}
+use Rattle.morphology.proofs.TestLaws.{and-r}
+use Rattle.planes.proofs.PlaneLaws.{frame-bytes}
+use Rattle.raster.specs.Rows.{overwrite}
+use Rattle.raster.proofs.PartLaws.{drop-overwrite}
+use Rattle.iteration.specs.Steps.{First, HandedOut, Ready, Sheet, Wrote, dilated}
+
+-- ---- sheets
+
+pub sheet-bytes : {w h r p : ℕ} → Sheet w h r p → p ≡ planeBytes w h
+sheet-bytes s = s .plane ∙ frame-bytes (s .frame)
+
+pub sheet-small : {w h r p : ℕ} → Sheet w h r p → p < 2 ^ 20
+unfolding stride
+sheet-small {w} {h} {r} {p} s =
+    let a = s .frame .across in
+    let b = s .frame .row in
+    let c = s .plane in
+    omega (arith, mul-le-mul-right r (s .frame .down))
+
+-- ---- what the first plane holds
+
+module _ {W H p : ℕ} {S : Point → Bool} {w u : List ℕ} (q : p ≡ planeBytes W H) (on : OnFrame W H S) (a : First W H p S w u) where
+  agree-first : Agree W H u (pack W H S)
+  agree-first j l = sym (getD-take p u j 0 (omega arith)) ∙ ap (λ (s : List ℕ). getD s j 0) (a .first)
+
+  pub first-image : imageSet W H u ≡ S
+  first-image = image-agree W H u (pack W H S) agree-first ∙ image-pack W H S on
+
+  pub first-clean : T (isClean W H u)
+  first-clean = clean-agree W H (pack W H S) u (λ j l. sym (agree-first j l)) (clean-pack W H S on)
+
+-- as it is read
+pub first-start : (W H p : ℕ) (w : List ℕ) → p ≡ planeBytes W H → 2 * p ≤ length w → ((i : ℕ) → getD w i 0 < 256) → T (isClean W H w)
+    → First W H p (imageSet W H w) w w
+first-start W H p w q h b clean = record { size = refl; first = sym plane; rest = refl }
+  where
+    agree : Agree W H (take p w) w
+    agree j l = getD-take p w j 0 (omega arith)
+
+    taken : (n : ℕ) (l : List ℕ) → ((i : ℕ) → getD l i 0 < 256) → (i : ℕ) → getD (take n l) i 0 < 256
+    taken zero l g i = omega arith
+    taken (suc n) [] g i = g i
+    taken (suc n) (x ∷ l) g zero = g 0
+    taken (suc n) (x ∷ l) g (suc i) = taken n l (λ j. g (suc j)) i
+
+    plane : pack W H (imageSet W H w) ≡ take p w
+    plane =
+        ap (pack W H) (sym (image-agree W H (take p w) w agree))
+        ∙ pack-image W H (take p w) (length-take-le p w (omega arith) ∙ q) (taken p w b) (clean-agree W H w (take p w) (λ j l. sym (agree j l)) clean)
+
+-- a set in the second plane, copied down
+pub step-done : (W H p : ℕ) (S : Point → Bool) (old v new : List ℕ) → p ≡ planeBytes W H → 2 * p ≤ length old → v ≡ overwrite p (pack W H S) old
+    → new ≡ take p (drop p v) ++ drop p v → First W H p S old new
+step-done W H p S old v new q h ev en =
+    let E = pack W H S in
+    let C = drop (p + p) old in
+    let size : length E ≡ p = length-pack W H S ∙ sym q in
+    let d : drop p v ≡ E ++ C = ap (drop p) ev ∙ drop-overwrite p p old E size (omega arith) in
+    let e : new ≡ E ++ (E ++ C) = en ∙ ap₂ (λ (a b : List ℕ). a ++ b) (ap (take p) d ∙ take-at E C p size) d in
+    let z : 2 * p ≡ p + p = omega arith in
+    record {
+      size = ap length e ∙ length-append E (E ++ C) ∙ ap (λ (n : ℕ). length E + n) (length-append E C) ∙ omega (arith, size, length-drop (p + p) old);
+      first = ap (take p) e ∙ take-at E (E ++ C) p size;
+      rest = ap₂ drop z e ∙ sym (drop-drop p p (E ++ (E ++ C))) ∙ ap (drop p) (drop-at E (E ++ C) p size) ∙ drop-at E C p size ∙ ap (λ (n : ℕ). drop n old) (sym z);
+    }
+
+-- another set in the first plane, after one before
+pub first-next : {W H p : ℕ} {S R : Point → Bool} {w u v : List ℕ} → First W H p S w u → First W H p R u v → First W H p R w v
+first-next a b = record { size = b .size ∙ a .size; first = b .first; rest = b .rest ∙ a .rest }
+
+-- the same set otherwise
+pub first-as : {W H p : ℕ} {S R : Point → Bool} {w u : List ℕ} → pack W H S ≡ pack W H R → First W H p S w u → First W H p R w u
+first-as e a = record { size = a .size; first = a .first ∙ e; rest = a .rest }
+
+-- ---- bytes of 0
+
+pub zeros-out : (l : List ℕ) → someOf (λ b. not (eqb b 0)) l ≡ false → l ≡ replicate (length l) 0
+zeros-out [] e = refl
+zeros-out (b ∷ l) e = by (zeros-out l) (eqb b 0) refl
+  where
+    by : (someOf (λ b. not (eqb b 0)) l ≡ false → l ≡ replicate (length l) 0) → (t : Bool) → eqb b 0 ≡ t → b ∷ l ≡ 0 ∷ replicate (length l) 0
+    by f true q = ap₂ (λ (x : ℕ) (y : List ℕ). x ∷ y) (eqb-true b 0 q) (f (sym (ap (λ (t : Bool). not t || someOf (λ b. not (eqb b 0)) l) q) ∙ e))
+    by f false q = absurd (subst T (sym (ap (λ (t : Bool). not t || someOf (λ b. not (eqb b 0)) l) q) ∙ e) tt)
+
+-- a first plane without a 1
+pub first-zeros : {W H p : ℕ} {S : Point → Bool} {w u : List ℕ} → p ≡ planeBytes W H → p ≤ length u → First W H p S w u
+    → someOf (λ b. not (eqb b 0)) (take p u) ≡ false
+    → take p u ≡ replicate (planeBytes W H) 0
+first-zeros {p = p} {u = u} q h a e = zeros-out (take p u) e ∙ ap (λ (n : ℕ). replicate n 0) (length-take-le p u h ∙ q)
+
+-- ---- erosion n times
+
+module _ (W H p e : ℕ) (el : T (isElement e)) (q : p ≡ planeBytes W H) (X : Point → Bool) (on : OnFrame W H X) (w u : List ℕ) where
+  abbrev pub Eroded : ℕ → Type 0
+  Eroded i = First W H p (erode (times (offsets e) i) X) w u
+
+  pub eroded-first-on : (i : ℕ) → OnFrame W H (erode (times (offsets e) i) X)
+  eroded-first-on i = eroded-on W H (offsets e) (element e el) X on i
+
+  pub eroded-clean : (i : ℕ) → Eroded i → T (isClean W H u)
+  eroded-clean i a = first-clean q (eroded-first-on i) a
+
+  pub eroded-more : (i : ℕ) (v : List ℕ) → Eroded i → First W H p (erode (offsets e) (imageSet W H u)) u v
+      → First W H p (erode (times (offsets e) (i + 1)) X) w v
+  eroded-more i v a b =
+      let Y = erode (times (offsets e) i) X in
+      first-next a
+      (first-as
+      (ap (λ (Z : Point → Bool). pack W H (erode (offsets e) Z)) (first-image q (eroded-first-on i) a ∙ sym (image-pack W H Y (eroded-first-on i)))
+      ∙ eroded-turn W H (offsets e) (element e el) X on i (pack W H Y) refl) b)
+
+  pub eroded-rest : (i n : ℕ) → i ≤ n → p ≤ length u → Eroded i → someOf (λ b. not (eqb b 0)) (take p u) ≡ false → Eroded n
+  eroded-rest i n h l a z =
+      first-as (sym (a .first) ∙ eroded-stop W H (offsets e) (element e el) X on i n (take p u) h (a .first) (first-zeros q l a z)) a
+
+-- ---- dilation n times
+
+pub dilated-on : (W H : ℕ) (B : List Point) (n : ℕ) (X : Point → Bool) → OnFrame W H X → OnFrame W H (dilated W H B n X)
+unfolding dilated
+dilated-on W H B zero X on = on
+dilated-on W H B (suc n) X on = clip-on W H (dilate B (dilated W H B n X))
+
+pub dilated-start : (W H p : ℕ) (B : List Point) (X : Point → Bool) (w u : List ℕ) → First W H p X w u → First W H p (dilated W H B 0 X) w u
+unfolding dilated
+dilated-start W H p B X w u a = a
+
+pub dilated-more : (W H p : ℕ) (B : List Point) (i : ℕ) (X : Point → Bool) (w u v : List ℕ) → p ≡ planeBytes W H → OnFrame W H X
+    → First W H p (dilated W H B i X) w u → First W H p (clip W H (dilate B (imageSet W H u))) u v → First W H p (dilated W H B (i + 1) X) w v
+unfolding dilated
+dilated-more W H p B i X w u v q on a b =
+    first-next a (first-as (ap (λ (Z : Point → Bool). pack W H (clip W H (dilate B Z))) (first-image q (dilated-on W H B i X on) a) ∙ ap (λ (k : ℕ). pack W H (dilated W H B k X)) (sym (add-one i))) b)
+
+-- of nothing nothing
+pub dilated-empty : (W H : ℕ) (B : List Point) (n : ℕ) (X : Point → Bool) → Empty X → Empty (dilated W H B n X)
+unfolding dilated clip
+dilated-empty W H B zero X f z t = f z t
+dilated-empty W H B (suc n) X f z t = dilate-empty B (dilated W H B n X) (dilated-empty W H B n X f) z (and-r (onFrame W H z) (dilate B (dilated W H B n X) z) t)
+
+pub dilated-rest : (W H p : ℕ) (B : List Point) (n : ℕ) (X : Point → Bool) (w u : List ℕ) → p ≡ planeBytes W H → OnFrame W H X → p ≤ length u
+    → First W H p X w u → someOf (λ b. not (eqb b 0)) (take p u) ≡ false → First W H p (dilated W H B n X) w u
+dilated-rest W H p B n X w u q on l a z =
+    let f = empty-pack W H X on (sym (a .first) ∙ first-zeros q l a z) in
+    first-as (pack-empty W H X f ∙ sym (pack-empty W H (dilated W H B n X) (dilated-empty W H B n X f))) a
+
+-- nothing is clipped where no step leaves the frame
+pub dilated-is : (W H : ℕ) (B : List Point) (X : Point → Bool) (n : ℕ) → ((i : ℕ) → i ≤ n → OnFrame W H (dilate (times B i) X))
+    → dilated W H B n X ≡ dilate (times B n) X
+unfolding dilated times
+dilated-is W H B X zero on = sym (dilate-zero B X)
+dilated-is W H B X (suc n) on =
+    ap (λ (Z : Point → Bool). clip W H (dilate B Z)) (dilated-is W H B X n (λ i h. on i (omega arith)))
+    ∙ ap (clip W H) (sym (dilate-sum (times B n) B X)) ∙ clip-is W H (dilate (times B (suc n)) X) (on (suc n) (le-refl (suc n)))
+
+-- n dilations of X(n) are the opening
+pub opened-first : (W H p e n : ℕ) (el : T (isElement e)) (X : Point → Bool) (w u v : List ℕ) → p ≡ planeBytes W H → OnFrame W H X
+    → First W H p (erode (times (offsets e) n) X) w u → First W H p (dilated W H (offsets e) n (imageSet W H u)) u v
+    → First W H p (opening (times (offsets e) n) X) w v
+unfolding opening
+opened-first W H p e n el X w u v q on a b =
+    let B = offsets e in
+    let Y = erode (times B n) X in
+    first-next a (first-as (ap (pack W H) (ap (dilated W H B n) (first-image q (eroded-on W H B (element e el) X on n) a) ∙ dilated-is W H B Y n (opened-on W H B (element e el) X on n))) b)
+
+-- ---- in and out
+
+-- an image that is ready, copied into the first plane
+pub ready-sheet : {W H : ℕ} {image out work : List ℕ} → Ready W H image out work → Sheet W H ((W + 7) / 8) (H * ((W + 7) / 8))
+ready-sheet d = record { frame = d .frame; plane = refl }
+
+pub record Loaded (W H : ℕ) (image work v : List ℕ) : Type 0 where
+  pub size : length v ≡ length work
+  pub clean : T (isClean W H v)
+  pub set : imageSet W H v ≡ imageSet W H image
+
+pub loaded : (W H p : ℕ) (image out work ys : List ℕ) → p ≡ planeBytes W H → Ready W H image out work → ys ≡ image
+    → Loaded W H image work (ys ++ drop p work)
+loaded W H p image out work ys q d e =
+    let agree : Agree W H (ys ++ drop p work) image =
+    λ j l. ap (λ (s : List ℕ). getD (s ++ drop p work) j 0) e ∙ List·getD-append image (drop p work) 0 j (omega (arith, d .image)) in
+    record {
+      size = ap (λ (s : List ℕ). length (s ++ drop p work)) e ∙ length-append image (drop p work) ∙ omega (arith, length-drop p work, d .image, d .work);
+      clean = clean-agree W H image (ys ++ drop p work) (λ j l. sym (agree j l)) (d .clean);
+      set = image-agree W H (ys ++ drop p work) image agree;
+    }
+
+-- a part is no longer than what is asked
+pub take-lt : (n k : ℕ) (l : List ℕ) → n < k → length (take n l) < k
+take-lt n k l h = omega (arith, length-take n l, min-le-left n (length l))
+
+-- three planes cleared
+pub three-cleared : (n : ℕ) (old ys : List ℕ) → ys ≡ replicate (length (take n old)) 0 → n ≤ length old
+    → ys ++ drop n old ≡ replicate n 0 ++ drop n old
+three-cleared n old ys e h = ap (λ (l : List ℕ). l ++ drop n old) (e ∙ ap (λ (k : ℕ). replicate k 0) (length-take-le n old h))
+
+-- work as it is left: cleared, and as it was before an image was copied in
+pub rest-cleared : (W H p : ℕ) (image work ys u : List ℕ) → p ≡ planeBytes W H → length image ≡ p → ys ≡ image → drop (3 * p) u ≡ drop (3 * p) (ys ++ drop p work)
+    → replicate (3 * p) 0 ++ drop (3 * p) u ≡ cleared W H work
+unfolding cleared
+rest-cleared W H p image work ys u q hi ey m =
+    let d : 3 * p ≡ p + 2 * p = omega arith in
+    ap (λ (l : List ℕ). replicate (3 * p) 0 ++ l)
+    (m ∙ ap₂ (λ (k : ℕ) (l : List ℕ). drop k (l ++ drop p work)) d ey ∙ sym (drop-drop (2 * p) p (image ++ drop p work))
+    ∙ ap (drop (2 * p)) (drop-at image (drop p work) p hi) ∙ drop-drop (2 * p) p work ∙ ap (λ (k : ℕ). drop k work) (sym d))
+    ∙ ap (λ (k : ℕ). replicate (3 * k) 0 ++ drop (3 * k) work) q
+
+-- handed out after an image was copied in
+pub wrote : (W H p n : ℕ) (X : Point → Bool) (image work ys u out work′ : List ℕ) → p ≡ planeBytes W H → OnFrame W H X → length image ≡ p → ys ≡ image
+    → First W H p X (ys ++ drop p work) u → HandedOut p (take p u) n out u work′ → Wrote W H X n out work work′
+wrote W H p n X image work ys u out work′ q on hi ey m h =
+    let d : 3 * p ≡ 2 * p + p = omega arith in
+    let rest : drop (3 * p) u ≡ drop (3 * p) (ys ++ drop p work) =
+    ap (λ (k : ℕ). drop k u) d ∙ sym (drop-drop p (2 * p) u) ∙ ap (drop p) (m .rest) ∙ drop-drop p (2 * p) (ys ++ drop p work) ∙ ap (λ (k : ℕ). drop k (ys ++ drop p work)) (sym d) in
+    record {
+      answer = h .answer ∙ ap onesOf (m .first) ∙ sym (area-pack W H X on);
+      image = h .image ∙ m .first;
+      left = h .left ∙ rest-cleared W H p image work ys u q hi ey rest;
+    }

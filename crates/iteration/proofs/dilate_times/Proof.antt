@@ -1,0 +1,108 @@
+-- `iteration::dilate_times` meets its contract.
+use mathlib.Core.Path.{_∙_, _≡_, refl, subst, sym}
+use Prim.Native.Nat.{_-_, _≤_, ℕ}
+use native.Mathlib.Omega.{arith}
+use borrow.Author.Tests.{not-true}
+use denote.Ref.{now}
+use lib.Seq.{length-take-le}
+use Rattle.morphology.specs.Element.{offsets}
+use Rattle.morphology.specs.Image.{imageSet}
+use Rattle.morphology.proofs.ImageLaws.{image-on}
+use Rattle.iteration.specs.Steps.{First, dilated}
+use Rattle.iteration.proofs.StepLaws.{dilated-more, dilated-on, dilated-rest, dilated-start, first-clean, first-start, sheet-bytes}
+use Rattle.iteration.proofs.dilate_times.Statement.{statement}
+use Rattle.iteration.proofs.dilate_times.Tie as tie
+
+abbrev Inv-loop : tie.InvT-loop
+Inv-loop w h r p element n work₀ j₀ work j = (j ≤ n) × First w h p (dilated w h (offsets element) j (imageSet w h work₀)) work₀ work
+
+abbrev μ-loop : tie.MeasureT-loop
+μ-loop w h r p element n work₀ j₀ work j = n - j
+
+slice-reshare-prefix-has-ink : tie.Need-slice-reshare-prefix-has-ink Inv-loop μ-loop
+slice-reshare-prefix-has-ink c = omega (arith, c .before .pre .1)
+
+slice-aggregate-has-ink : tie.Need-slice-aggregate-has-ink Inv-loop μ-loop
+slice-aggregate-has-ink c = sym (length-take-le (c .before .before .args .p) (now (c .before .before .args .work)) (omega (arith, c .before .before .pre .1)))
+
+has-ink-requires : tie.Need-has-ink-requires Inv-loop μ-loop
+has-ink-requires c κs = tt
+
+same-length : tie.Need-same-length Inv-loop μ-loop
+same-length c = refl
+
+returns : tie.Need-returns Inv-loop μ-loop
+returns c =
+    let s = c .before .before .before .before in
+    let a = s .args in
+    let X = imageSet (a .w) (a .h) (now (a .work)) in
+    let q = sheet-bytes (s .pre .0) in
+    dilated-rest (a .w) (a .h) (a .p) (offsets (a .element)) (a .n) X (now (a .work)) (now (a .work)) q (image-on (a .w) (a .h) (now (a .work))) (omega (arith, s .pre .1))
+    (first-start (a .w) (a .h) (a .p) (now (a .work)) q (s .pre .1) (λ i. c .before .before .before .slice-known .given i .fits) (s .pre .2)) (sym (c .before .has-ink .ensures) ∙ not-true _ (c .if1 .taken))
+
+loop-holds : tie.Need-loop-holds Inv-loop μ-loop
+loop-holds c =
+    let s = c .before .before .before .before in
+    let a = s .args in
+    let X = imageSet (a .w) (a .h) (now (a .work)) in (
+      omega arith,
+      dilated-start (a .w) (a .h) (a .p) (offsets (a .element)) X (now (a .work)) (now (a .work))
+          (first-start (a .w) (a .h) (a .p) (now (a .work)) (sheet-bytes (s .pre .0)) (s .pre .1) (λ i. c .before .before .before .slice-known .given i .fits) (s .pre .2)),
+    )
+
+dilate-step-requires : tie.Need-dilate-step-requires Inv-loop μ-loop
+dilate-step-requires c κs =
+    let s = c .before .before .before .before .before .before .before in
+    let a = s .args in
+    let l = c .before .before .loop in
+    let X = imageSet (a .w) (a .h) (now (a .work)) in (
+      s .pre .0,
+      omega (arith, l .inv .1 .size, s .pre .1),
+      first-clean (sheet-bytes (s .pre .0)) (dilated-on (a .w) (a .h) (offsets (a .element)) (l .j) X (image-on (a .w) (a .h) (now (a .work)))) (l .inv .1),
+    )
+
+add-j : tie.Need-add-j Inv-loop μ-loop
+add-j c = omega arith
+
+loop-less : tie.Need-loop-less Inv-loop μ-loop
+loop-less c = omega arith
+
+loop-again : tie.Need-loop-again Inv-loop μ-loop
+loop-again c =
+    let s = c .before .before .before .before .before .before .before .before .before .before in
+    let a = s .args in
+    let l = c .before .before .before .before .before .loop in
+    let X = imageSet (a .w) (a .h) (now (a .work)) in (
+      omega arith,
+      dilated-more (a .w) (a .h) (a .p) (offsets (a .element)) (l .j) X (now (a .work)) (l .work) _ (sheet-bytes (s .pre .0)) (image-on (a .w) (a .h) (now (a .work))) (l .inv .1)
+          (c .before .before .dilate-step .ensures),
+    )
+
+same-length-2 : tie.Need-same-length-2 Inv-loop μ-loop
+same-length-2 c = c .before .loop .inv .1 .size
+
+returns-2 : tie.Need-returns-2 Inv-loop μ-loop
+returns-2 c =
+    let a = c .before .before .before .before .before .before .args in
+    let l = c .before .loop in
+    let e : l .j ≡ a .n = omega arith in
+    subst (λ (k : ℕ). First (a .w) (a .h) (a .p) (dilated (a .w) (a .h) (offsets (a .element)) k (imageSet (a .w) (a .h) (now (a .work)))) (now (a .work)) (l .work)) e (l .inv .1)
+
+pub dilate-times-spec : {M : Type 1} → statement M
+dilate-times-spec =
+    tie.close
+    (tie.spec
+    Inv-loop
+    μ-loop
+    slice-reshare-prefix-has-ink
+    slice-aggregate-has-ink
+    has-ink-requires
+    same-length
+    returns
+    loop-holds
+    dilate-step-requires
+    add-j
+    loop-less
+    loop-again
+    same-length-2
+    returns-2)

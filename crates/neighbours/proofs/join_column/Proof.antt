@@ -1,0 +1,111 @@
+-- `neighbours::join_column` meets its contract.
+use denote.Ref.{now}
+use native.Mathlib.Omega.{arith}
+use mathlib.Core.Path.{_∙_, _≡_, ap}
+use Prim.Native.Nat.{_*_, _+_, _-_, _/_, _^_, _≤_, ℕ}
+use lib.ListN.{drop, length, length-drop}
+use lib.Pow.{shr-shr}
+use lib.Seq.{length-take-le}
+use Rattle.raster.specs.Rows.{RowJoined, readBit}
+use Rattle.neighbours.specs.Neighbours.{joined}
+use Rattle.neighbours.proofs.StripLaws.{bitAsks, column-done, column-more, column-none, column-room}
+use Rattle.neighbours.proofs.join_column.Statement.{statement}
+use Rattle.neighbours.proofs.join_column.Tie as tie
+
+abbrev Inv-loop : tie.InvT-loop
+Inv-loop dilating inverse strip r column dst₀ n rest₀ k₀ dst rest k = (k ≤ 5) × (rest ≡ column / 2 ^ (k * 5)) × RowJoined dilating dst₀ dst (λ x. joined dilating k (bitAsks dilating column (λ k. readBit inverse strip (8 * (k * r) + x))))
+
+abbrev μ-loop : tie.MeasureT-loop
+μ-loop dilating inverse strip r column dst₀ n rest₀ k₀ dst rest k = 5 - k
+
+loop-holds : tie.Need-loop-holds Inv-loop μ-loop
+loop-holds c = let a = c .before .before .args in (omega arith, omega arith, column-none (a .dilating) (a .column) (λ k x. readBit (a .inverse) (now (a .strip)) (8 * (k * a .r) + x)) (now (a .dst)))
+
+turn-requires : tie.Need-turn-requires Inv-loop μ-loop
+turn-requires c κs = omega arith
+
+mul-at : tie.Need-mul-at Inv-loop μ-loop
+mul-at c =
+    let s = c .before .before .before .before .before in
+    let a = s .args in
+    let l = c .before .before .loop in
+    omega (arith, column-room (a .dilating) (l .k) (a .r) (c .turn .result) (c .before .loop-test .taken) (c .turn .ensures), s .pre .0, s .pre .1, l .inv .2 .size)
+
+add-join-if : tie.Need-add-join-if Inv-loop μ-loop
+add-join-if c =
+    let s = c .before .before .before .before .before in
+    let a = s .args in
+    let l = c .before .before .loop in
+    omega (arith, column-room (a .dilating) (l .k) (a .r) (c .turn .result) (c .before .loop-test .taken) (c .turn .ensures), s .pre .0, s .pre .1, l .inv .2 .size)
+
+sub-join-if : tie.Need-sub-join-if Inv-loop μ-loop
+sub-join-if c = omega arith
+
+part-join-if-start : tie.Need-part-join-if-start Inv-loop μ-loop
+part-join-if-start c = omega arith
+
+part-join-if-end : tie.Need-part-join-if-end Inv-loop μ-loop
+part-join-if-end c =
+    let s = c .before .before .before .before .before in
+    let a = s .args in
+    let l = c .before .before .loop in
+    omega (arith, column-room (a .dilating) (l .k) (a .r) (c .turn .result) (c .before .loop-test .taken) (c .turn .ensures), s .pre .0, s .pre .1, l .inv .2 .size)
+
+join-if-requires : tie.Need-join-if-requires Inv-loop μ-loop
+join-if-requires c κs =
+    let s = c .before .before .before .before .before .before .before in
+    let a = s .args in
+    let l = c .before .before .before .before .loop in
+    let at = c .before .before .turn .result * a .r in
+    let n = length (now (a .dst)) in
+    let q = column-room (a .dilating) (l .k) (a .r) (c .before .before .turn .result) (c .before .before .before .loop-test .taken) (c .before .before .turn .ensures) in
+    let m = length-take-le (at + n - at) (drop at (now (a .strip))) (omega (arith, length-drop at (now (a .strip)), q, s .pre .1)) in
+    omega (arith, m, l .inv .2 .size)
+
+add-k : tie.Need-add-k Inv-loop μ-loop
+add-k c = omega arith
+
+loop-less : tie.Need-loop-less Inv-loop μ-loop
+loop-less c = omega arith
+
+loop-again : tie.Need-loop-again Inv-loop μ-loop
+loop-again c =
+    let s = c .before .before .before .before .before .before .before .before .before .before in
+    let a = s .args in
+    let l = c .before .before .before .before .before .before .before .loop in
+    let at = c .before .before .before .before .before .turn .result * a .r in
+    let n = length (now (a .dst)) in
+    let e : l .k * 5 + 5 ≡ (l .k + 1) * 5 = omega arith in (
+      omega arith,
+      ap (λ (n : ℕ). n / 32) (l .inv .1) ∙ shr-shr (a .column) (l .k * 5) 5 ∙ ap (λ (n : ℕ). a .column / 2 ^ n) e,
+      column-more (a .dilating) (a .inverse) (a .column) (l .rest) (l .k) (a .r) at (at + n - at) (now (a .strip)) (now (a .dst)) (l .dst) _ (l .inv .1) (ap (λ (k : ℕ). k * a .r) (c .before .before .before .before .before .turn .ensures)) (omega arith) (l .inv .2) (c .before .before .join-if .ensures),
+    )
+
+same-length : tie.Need-same-length Inv-loop μ-loop
+same-length c = c .before .loop .inv .2 .size
+
+returns : tie.Need-returns Inv-loop μ-loop
+returns c =
+    let a = c .before .before .before .before .args in
+    let l = c .before .loop in
+    column-done (a .dilating) (a .column) (l .k) (λ k x. readBit (a .inverse) (now (a .strip)) (8 * (k * a .r) + x)) (now (a .dst)) (l .dst) (omega arith) (l .inv .2)
+
+pub join-column-spec : {M : Type 1} → statement M
+join-column-spec =
+    tie.close
+    (tie.spec
+    Inv-loop
+    μ-loop
+    loop-holds
+    turn-requires
+    mul-at
+    add-join-if
+    sub-join-if
+    part-join-if-start
+    part-join-if-end
+    join-if-requires
+    add-k
+    loop-less
+    loop-again
+    same-length
+    returns)

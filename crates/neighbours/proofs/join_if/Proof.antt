@@ -1,0 +1,22 @@
+-- `neighbours::join_if` meets its contract.
+use denote.Ref.{now}
+use Rattle.raster.specs.Rows.{readBit}
+use Rattle.neighbours.proofs.NeighbourLaws.{row-if, row-unless}
+use borrow.Author.Needs.{needs}
+use Rattle.neighbours.proofs.join_if.Statement.{statement}
+use Rattle.neighbours.proofs.join_if.Tie as tie
+
+join-rows-requires : tie.Need-join-rows-requires
+join-rows-requires c κs = search needs
+
+same-length : tie.Need-same-length
+same-length c = search needs
+
+returns : tie.Need-returns
+returns c = let a = c .before .before .before .before .before .before .before .args in row-if (a .dilating) (now (a .dst)) _ (readBit (a .inverse) (now (a .src))) (a .digit) (c .before .before .before .before .if1 .taken) (c .before .before .join-rows .ensures)
+
+returns-2 : tie.Need-returns-2
+returns-2 c = let a = c .before .before .before .args in row-unless (a .dilating) (now (a .dst)) (readBit (a .inverse) (now (a .src))) (a .digit) (c .if1 .left)
+
+pub join-if-spec : {M : Type 1} → statement M
+join-if-spec = tie.close (tie.spec join-rows-requires same-length returns returns-2)

@@ -1,0 +1,83 @@
+-- `neighbours::join_near` meets its contract.
+use denote.Ref.{now}
+use native.Mathlib.Omega.{arith}
+use Prim.Native.Nat.{_*_, _+_, _-_}
+use Rattle.neighbours.specs.Neighbours.{source}
+use Rattle.neighbours.proofs.StripLaws.{rows-in, strip-part}
+use borrow.Author.Needs.{needs}
+use Rattle.neighbours.proofs.join_near.Statement.{statement}
+use Rattle.neighbours.proofs.join_near.Tie as tie
+
+load-source-requires : tie.Need-load-source-requires
+load-source-requires c κs = search needs
+
+mul-d : tie.Need-mul-d
+mul-d c =
+    let s = c .before .before .before .before .before .before .before .before .before in
+    let a = s .args in
+    omega (arith, rows-in (a .y) (a .n) (a .h) (a .r) (s .pre .5), s .pre .1, s .good .1 .1 .1 .1 .0)
+
+add-d : tie.Need-add-d
+add-d c =
+    let s = c .before .before .before .before .before .before .before .before .before in
+    let a = s .args in
+    omega (arith, rows-in (a .y) (a .n) (a .h) (a .r) (s .pre .5), s .pre .1, s .good .1 .1 .1 .1 .0)
+
+mul-join-strip : tie.Need-mul-join-strip
+mul-join-strip c = search needs
+
+add-join-strip : tie.Need-add-join-strip
+add-join-strip c =
+    let s = c .before .before .before .before .before .before .before .before .before .before .before in
+    let a = s .args in
+    omega (arith, rows-in (a .y) (a .n) (a .h) (a .r) (s .pre .5), s .pre .1, s .good .1 .1 .1 .1 .0)
+
+sub-join-strip : tie.Need-sub-join-strip
+sub-join-strip c = search needs
+
+part-join-strip-start : tie.Need-part-join-strip-start
+part-join-strip-start c = search needs
+
+part-join-strip-end : tie.Need-part-join-strip-end
+part-join-strip-end c =
+    let s = c .before .before .before .before .before .before .before .before .before .before .before in
+    let a = s .args in
+    omega (arith, rows-in (a .y) (a .n) (a .h) (a .r) (s .pre .5), s .pre .1, s .good .1 .1 .1 .1 .0)
+
+join-strip-requires : tie.Need-join-strip-requires
+join-strip-requires c κs = search needs
+
+same-length : tie.Need-same-length
+same-length c = search needs
+
+same-length-2 : tie.Need-same-length-2
+same-length-2 c = search needs
+
+same-length-3 : tie.Need-same-length-3
+same-length-3 c = search needs
+
+returns : tie.Need-returns
+returns c =
+    let s = c .before .before .before .before .before .before .before .before .before .before .before .before .before .before .before .before .before in
+    let a = s .args in
+    let d = a .p + a .y * a .r in
+    strip-part (a .dilating) (a .inverse) d (a .r) (a .h) (a .y) (a .n) (d + a .n * a .r - d) (a .element) (source (a .own) (now (a .image)) (now (a .work))) _ (now (a .work)) _ (omega arith)
+    (omega (arith, rows-in (a .y) (a .n) (a .h) (a .r) (s .pre .5), s .pre .1)) (c .before .before .before .before .before .before .before .before .before .before .load-source .ensures) (c .before .before .before .before .join-strip .ensures)
+
+pub join-near-spec : {M : Type 1} → statement M
+join-near-spec =
+    tie.close
+    (tie.spec
+    load-source-requires
+    mul-d
+    add-d
+    mul-join-strip
+    add-join-strip
+    sub-join-strip
+    part-join-strip-start
+    part-join-strip-end
+    join-strip-requires
+    same-length
+    same-length-2
+    same-length-3
+    returns)

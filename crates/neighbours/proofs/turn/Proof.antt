@@ -1,0 +1,17 @@
+-- `neighbours::turn` meets its contract.
+use Rattle.neighbours.proofs.NeighbourLaws.{turned-dilating, turned-eroding}
+use borrow.Author.Needs.{needs}
+use Rattle.neighbours.proofs.turn.Statement.{statement}
+use Rattle.neighbours.proofs.turn.Tie as tie
+
+sub-result : tie.Need-sub-result
+sub-result c = search needs
+
+returns : tie.Need-returns
+returns c = turned-dilating _ _ (c .if1 .taken)
+
+returns-2 : tie.Need-returns-2
+returns-2 c = turned-eroding _ _ (c .if1 .left)
+
+pub turn-spec : {M : Type 1} → statement M
+turn-spec = tie.close (tie.spec sub-result returns returns-2)

@@ -1,0 +1,216 @@
+-- Labels reconstructed size by size.
+use mathlib.Core.Bool.{Bool, _&&_, _||_, cond, false, true}
+use mathlib.Core.List.{List, [], _++_, _∷_}
+use mathlib.Core.Path.{_∙_, _≡_, ap, ap₂, refl, subst, sym}
+use Prim.Native.Nat.{_*_, _+_, _-_, _/_, _<_, _≤_, max, suc, zero-le, ℕ}
+use native.Mathlib.Nat.{le-refl}
+use native.Mathlib.Omega.{arith}
+use borrow.Author.Tests.{ltb-false}
+use lib.Dec.{T, eqb, ltb}
+use lib.IntN.{negsuc, pos, ℤ}
+use lib.ListN.{drop, getD, length, length-append, length-drop, length-replicate, replicate, take}
+use lib.Seq.{drop-at, drop-drop, getD-take, length-take-le, take-at}
+use Rattle.morphology.specs.Element.{isElement, offsets}
+use Rattle.morphology.specs.Image.{imageSet, isClean, pack, planeBytes}
+use Rattle.morphology.specs.Labels.{labelAt}
+use Rattle.morphology.specs.Lists.{greatest}
+use Rattle.morphology.specs.Morphology.{dilate}
+use Rattle.morphology.specs.Point.{Point, at}
+use Rattle.morphology.specs.Skeleton.{reconstruction}
+use Rattle.morphology.proofs.CountLaws.{getD-greatest}
+use Rattle.morphology.proofs.ElementLaws.{element}
+use Rattle.morphology.proofs.FrameLaws.{OnFrame}
+use Rattle.morphology.proofs.ImageLaws.{Agree, clean-agree, image-agree, length-pack}
+use Rattle.morphology.proofs.MorphologyLaws.{dilate-zero}
+use Rattle.morphology.proofs.PlaneLaws.{pack-empty}
+use Rattle.morphology.proofs.ReconstructLaws.{dilated-suc, partial-top, reconstruction-on, union-at-on, union-dilated, union-on, union-turn}
+use Rattle.morphology.proofs.RefusalLaws.{T-of-not, first-out, fits-plane, three-out}
+use Rattle.morphology.specs.Operations.{reconstructRows}
+use Rattle.morphology.specs.Refusals.{Row, firstRefusal, notPlaces, notPlane, row1, row2, row3, row5, row7, shortWork}
+use Rattle.refusals.proofs.SideLaws.{Sides, sides-frame, sides-of}
+use Rattle.label_read.specs.Points.{withPoints}
+use Rattle.raster.specs.Rows.{overwrite}
+use Rattle.raster.proofs.PartLaws.{overwrite-all}
+use Rattle.iteration.specs.Steps.{First, Sheet, dilated}
+use Rattle.iteration.proofs.StepLaws.{dilated-is, first-as, first-clean, first-image, first-next}
+use Rattle.reconstruction.specs.Gathered.{Kept, Tame, gathered, grown}
+
+-- the largest label bounds them all
+label-greatest : (W H : ℕ) (m : List ℕ) (p : Point) → labelAt W H m p ≤ greatest m
+unfolding labelAt
+label-greatest W H m p = by (p .x) (p .y)
+  where
+    by : (x y : ℤ) → labelAt W H m (at x y) ≤ greatest m
+    by (pos x) (pos y) = go (ltb x W && ltb y H)
+      where
+        go : (b : Bool) → cond b (getD m (y * W + x) 0) 0 ≤ greatest m
+        go true = getD-greatest m (y * W + x)
+        go false = zero-le
+    by (pos x) (negsuc y) = zero-le
+    by (negsuc x) y = zero-le
+
+-- ---- one size
+
+-- what the first plane, lent as a part and back, holds of it
+module _ (W H p : ℕ) (q : p ≡ planeBytes W H) (S : Point → Bool) (on : OnFrame W H S) (w u : List ℕ) (h : 2 * p ≤ length w) (a : First W H p S w u) where
+  pub taken : length (take p u) ≡ p
+  taken = length-take-le p u (omega (arith, a .size))
+
+  agree : Agree W H (take p u) u
+  agree j l = getD-take p u j 0 (omega arith)
+
+  pub part-clean : T (isClean W H (take p u))
+  part-clean = clean-agree W H u (take p u) (λ j l. sym (agree j l)) (first-clean q on a)
+
+  -- the points with label v joined to it
+  pub joined-first : (m : List ℕ) (v : ℕ) (ys : List ℕ) → ys ≡ overwrite 0 (pack W H (withPoints W H m v (take p u))) (take p u)
+      → First W H p (λ z. eqb (labelAt W H m z) v || S z) w (ys ++ drop p u)
+  joined-first m v ys e =
+      let X = withPoints W H m v (take p u) in
+      let size : length (pack W H X) ≡ p = length-pack W H X ∙ sym q in
+      let y : ys ≡ pack W H X = e ∙ overwrite-all (pack W H X) (take p u) (size ∙ sym taken) in
+      let z : 2 * p ≡ p + p = omega arith in
+      record {
+        size = ap (λ (s : List ℕ). length (s ++ drop p u)) y ∙ length-append (pack W H X) (drop p u) ∙ omega (arith, size, length-drop p u, a .size, h);
+        first = ap (λ (s : List ℕ). take p (s ++ drop p u)) y ∙ take-at (pack W H X) (drop p u) p size
+            ∙ ap (λ (Y : Point → Bool). pack W H (λ z. eqb (labelAt W H m z) v || Y z)) (image-agree W H (take p u) u agree ∙ first-image q on a);
+        rest = ap₂ (λ (k : ℕ) (s : List ℕ). drop k (s ++ drop p u)) z y ∙ sym (drop-drop p p (pack W H X ++ drop p u)) ∙ ap (drop p) (drop-at (pack W H X) (drop p u) p size)
+            ∙ drop-drop p p u ∙ ap (λ (k : ℕ). drop k u) (sym z) ∙ a .rest;
+      }
+
+-- ---- size by size
+
+module _ (W H p e k : ℕ) (q : p ≡ planeBytes W H) (m : List ℕ) (t : Tame W H e k m) where
+  B : List Point
+  B = offsets e
+
+  -- after the sizes from n on
+  abbrev pub Gathered : ℕ → List ℕ → List ℕ → Type 0
+  Gathered n w u = First W H p (gathered W H (offsets e) m (max n k)) w u
+
+  pub gathered-on : (n : ℕ) → OnFrame W H (gathered W H (offsets e) m (max n k))
+  gathered-on n = union-at-on W H (offsets e) (element e (t .element)) m k (t .stays) (max n k) (omega arith)
+
+  -- none yet
+  pub gathered-start : (n : ℕ) (w : List ℕ) → n ≡ greatest m → take p w ≡ replicate p 0 → Gathered n w w
+  gathered-start n w g z =
+      let U = gathered W H (offsets e) m (max n k) in
+      record {
+        size = refl;
+        first = z ∙ ap (λ (i : ℕ). replicate i 0) q ∙ sym (pack-empty W H U (partial-top W H (offsets e) (labelAt W H m) (greatest m) (max n k) (label-greatest W H m) (omega arith)));
+        rest = refl;
+      }
+
+  pub gathered-clean : (n : ℕ) (w u : List ℕ) → Gathered n w u → T (isClean W H u)
+  gathered-clean n w u a = first-clean q (gathered-on n) a
+
+  -- one size more
+  pub gathered-more : (n : ℕ) (w u v : List ℕ) → k < n → Gathered n w u → First W H p (grown W H (offsets e) m n u) u v → Gathered (n - 1) w v
+  unfolding dilated
+  gathered-more n w u v l a b =
+      let el = element e (t .element) in
+      let U = gathered W H (offsets e) m n in
+      let i : max n k ≡ n = omega arith in
+      let j : max (n - 1) k ≡ n - 1 = omega arith in
+      let s : n ≡ suc (n - 1) = omega arith in
+      let set : imageSet W H u ≡ U = first-image q (gathered-on n) a ∙ ap (gathered W H (offsets e) m) i in
+      let one : dilated W H (offsets e) 1 U ≡ dilate (offsets e) U =
+      dilated-is W H (offsets e) U 1 (λ i h. union-on W H (offsets e) el m k (t .stays) n i (omega arith) (omega arith))
+      ∙ dilated-suc (offsets e) 0 U ∙ ap (dilate (offsets e)) (dilate-zero (offsets e) U) in
+      let joined : ℕ → (Point → Bool) → (Point → Bool) = λ i Y z. eqb (labelAt W H m z) i || Y z in
+      let turn : joined n (dilated W H (offsets e) 1 (imageSet W H u)) ≡ gathered W H (offsets e) m (max (n - 1) k) =
+      ap (joined n) (ap (dilated W H (offsets e) 1) set ∙ one)
+      ∙ ap (λ (i : ℕ). joined i (dilate (offsets e) (gathered W H (offsets e) m i))) s
+      ∙ sym (union-turn W H (offsets e) el m (n - 1)) ∙ ap (gathered W H (offsets e) m) (sym j) in
+      first-next a (first-as (ap (pack W H) turn) b)
+
+  -- down to the cut
+  pub gathered-last : (n : ℕ) (w u : List ℕ) → n ≤ k → Gathered n w u → First W H p (gathered W H (offsets e) m k) w u
+  gathered-last n w u l a = let i : max n k ≡ k = omega arith in subst (λ (i : ℕ). First W H p (gathered W H (offsets e) m i) w u) i a
+
+  -- and the cut's dilations
+  pub gathered-dilated : (w u v : List ℕ) → First W H p (gathered W H (offsets e) m k) w u → First W H p (dilated W H (offsets e) k (imageSet W H u)) u v
+      → First W H p (reconstruction W H (offsets e) k m) w v
+  gathered-dilated w u v a b =
+      let el = element e (t .element) in
+      let U = gathered W H (offsets e) m k in
+      let on = union-at-on W H (offsets e) el m k (t .stays) k (le-refl k) in
+      first-next a
+      (first-as
+      (ap (pack W H)
+      (ap (dilated W H (offsets e) k) (first-image q on a) ∙ dilated-is W H (offsets e) U k (λ i h. union-on W H (offsets e) el m k (t .stays) k i (le-refl k) h) ∙ union-dilated W H (offsets e) el m k))
+      b)
+
+  pub gathered-cleans : (w u : List ℕ) → First W H p (gathered W H (offsets e) m k) w u → T (isClean W H u)
+  gathered-cleans w u a = first-clean q (union-at-on W H (offsets e) (element e (t .element)) m k (t .stays) k (le-refl k)) a
+
+  pub kept-on : OnFrame W H (reconstruction W H (offsets e) k m)
+  kept-on = reconstruction-on W H (offsets e) (element e (t .element)) m k (t .stays)
+
+-- ---- an empty first plane
+
+pub record Emptied (p : ℕ) (work ys : List ℕ) : Type 0 where
+  pub zeros : ys ≡ replicate p 0
+  pub first : take p (ys ++ drop p work) ≡ replicate p 0
+  pub size : length (ys ++ drop p work) ≡ length work
+
+pub emptied : (p : ℕ) (work ys : List ℕ) → p ≤ length work → ys ≡ replicate (length (take p work)) 0 → Emptied p work ys
+emptied p work ys h e =
+    let z : ys ≡ replicate p 0 = e ∙ ap (λ (n : ℕ). replicate n 0) (length-take-le p work h) in
+    let l : length ys ≡ p = ap length z ∙ length-replicate {A = ℕ} p 0 in
+    record { zeros = z; first = take-at ys (drop p work) p l ∙ z; size = length-append ys (drop p work) ∙ omega (arith, l, length-drop p work, h) }
+
+pub kept-sheet : {W H e k : ℕ} {m image work : List ℕ} → Kept W H e k m image work → Sheet W H ((W + 7) / 8) (H * ((W + 7) / 8))
+kept-sheet d = record { frame = d .frame; plane = refl }
+
+-- ---- the rows of a call
+
+module _ (W H e : ℕ) (m image work : List ℕ) where
+  -- rows 1, 2 and 3
+  abbrev pub shapeRows : List Row
+  shapeRows = row1 W H ∷ row2 e ∷ row3 (notPlaces W H m ∷ notPlane W H image ∷ shortWork W H work ∷ []) ∷ []
+
+  pub shape-is : (a b c : Bool) (r : ℕ) → a ≡ notPlaces W H m → b ≡ notPlane W H image → c ≡ shortWork W H work
+      → r ≡ firstRefusal (row1 W H ∷ row2 e ∷ row3 (a ∷ b ∷ c ∷ []) ∷ []) → r ≡ firstRefusal shapeRows
+  shape-is a b c r ea eb ec q =
+      q ∙ ap (λ (a : Bool). firstRefusal (row1 W H ∷ row2 e ∷ row3 (a ∷ b ∷ c ∷ []) ∷ [])) ea
+      ∙ ap₂ (λ (b c : Bool). firstRefusal (row1 W H ∷ row2 e ∷ row3 (notPlaces W H m ∷ b ∷ c ∷ []) ∷ [])) eb ec
+
+  -- what they let pass
+  pub record Shaped : Type 0 where
+    pub sides : Sides W H
+    pub element : T (isElement e)
+    pub places : length m ≡ W * H
+    pub plane : length image ≡ planeBytes W H
+    pub planes : 3 * planeBytes W H ≤ length work
+
+  shaped-by : (rows : List Row) → firstRefusal (row1 W H ∷ row2 e ∷ row3 (notPlaces W H m ∷ notPlane W H image ∷ shortWork W H work ∷ []) ∷ rows) ≡ 0
+      → Shaped × (firstRefusal rows ≡ 0)
+  shaped-by rows z =
+      let r1 = first-out 1 _ _ tt z in
+      let r2 = first-out 2 _ _ tt (r1 .1) in
+      let r3 = first-out 3 _ _ tt (r2 .1) in
+      let l = three-out (notPlaces W H m) (notPlane W H image) (shortWork W H work) (r3 .0) in (
+        record {
+          sides = sides-of W H (r1 .0);
+          element = T-of-not (isElement e) (r2 .0);
+          places = fits-plane (length m) (W * H) (l .0);
+          plane = fits-plane (length image) (planeBytes W H) (l .1);
+          planes = ltb-false (length work) (3 * planeBytes W H) (l .2);
+        },
+        r3 .1,
+      )
+
+  pub shaped : firstRefusal shapeRows ≡ 0 → Shaped
+  shaped z = shaped-by [] z .0
+
+  pub kept-ready : (k : ℕ) → firstRefusal (reconstructRows W H e k m image work) ≡ 0 → Kept W H e k m image work
+  kept-ready k z =
+      let s = shaped-by (row5 W H (offsets e) k m ∷ row7 k ∷ []) z in
+      let d = s .0 in
+      record {
+        frame = sides-frame (d .sides);
+        labels = record { places = d .places; element = d .element; stays = first-out 5 _ _ tt (s .1) .0 };
+        image = d .plane;
+        work = d .planes;
+      }

@@ -1,0 +1,133 @@
+-- `reconstruction::gather` meets its contract.
+use Rattle.reconstruction.proofs.gather.Statement.{statement}
+use mathlib.Core.Path.{_∙_, _≡_, ap, refl, sym}
+use Prim.Native.Nat.{_*_, _+_, _≤_, max, ℕ}
+use borrow.Author.Needs.{needs}
+use native.Mathlib.Omega.{arith}
+use denote.Ref.{now}
+use lib.ListN.{drop, length, take}
+use Rattle.morphology.specs.Element.{offsets}
+use Rattle.morphology.specs.Labels.{maxLabel}
+use Rattle.raster.specs.Limits.{maxFrame}
+use Rattle.label_read.specs.Points.{Tops, greatestBelow}
+use Rattle.iteration.specs.Steps.{First}
+use Rattle.iteration.proofs.StepLaws.{sheet-bytes}
+use Rattle.reconstruction.specs.Gathered.{gathered}
+use Rattle.reconstruction.proofs.GatherLaws.{gathered-clean, gathered-last, gathered-more, gathered-start}
+use Rattle.reconstruction.proofs.gather.Tie as tie
+
+abbrev Inv-loop : tie.InvT-loop
+Inv-loop w h r p element cut labels work₀ n₀ tops₀ work n tops =
+    (n ≤ maxLabel) × First w h p (gathered w h (offsets element) labels (max n cut)) work₀ work × (length tops ≡ maxFrame) × Tops w h n labels tops
+
+abbrev μ-loop : tie.MeasureT-loop
+μ-loop w h r p element cut labels work₀ n₀ tops₀ work n tops =
+    n
+
+greatest-requires : tie.Need-greatest-requires Inv-loop μ-loop
+greatest-requires c κs =
+    tt
+
+cast-n : tie.Need-cast-n Inv-loop μ-loop
+cast-n c =
+    search needs
+
+returns : tie.Need-returns Inv-loop μ-loop
+returns c =
+    let s = c .before .before .before .before in
+    let a = s .args in
+    let g = c .before .greatest in
+    gathered-last (a .w) (a .h) (a .p) (a .element) (a .cut) (sheet-bytes (s .pre .0)) (now (a .labels)) (s .pre .2) (g .result) (now (a .work)) (now (a .work)) (omega (arith, c .if1 .taken))
+    (gathered-start (a .w) (a .h) (a .p) (a .element) (a .cut) (sheet-bytes (s .pre .0)) (now (a .labels)) (s .pre .2) (g .result) (now (a .work)) (g .ensures) (s .pre .3))
+
+slice-aggregate-row-tops : tie.Need-slice-aggregate-row-tops Inv-loop μ-loop
+slice-aggregate-row-tops c =
+    refl
+
+row-tops-requires : tie.Need-row-tops-requires Inv-loop μ-loop
+row-tops-requires c κs =
+    search needs
+
+loop-holds : tie.Need-loop-holds Inv-loop μ-loop
+loop-holds c =
+    let s = c .before .before .before .before .before .before .before in
+    let a = s .args in
+    let g = c .before .before .before .before .greatest in (
+      search needs,
+      gathered-start (a .w) (a .h) (a .p) (a .element) (a .cut) (sheet-bytes (s .pre .0)) (now (a .labels)) (s .pre .2) (g .result) (now (a .work)) (g .ensures) (s .pre .3),
+      c .before .row-tops .kept .1 .1 .1 .0,
+      λ y l. c .before .row-tops .ensures y l ∙ ap (λ (n : ℕ). greatestBelow (n + 1) (take (a .w) (drop (y * a .w) (now (a .labels))))) (sym (g .ensures)),
+    )
+
+cast-grow : tie.Need-cast-grow Inv-loop μ-loop
+cast-grow c =
+    omega (arith, c .before .loop .inv .0)
+
+slice-aggregate-grow : tie.Need-slice-aggregate-grow Inv-loop μ-loop
+slice-aggregate-grow c =
+    sym (c .before .before .loop .inv .2)
+
+grow-requires : tie.Need-grow-requires Inv-loop μ-loop
+grow-requires c κs =
+    let s = c .before .before .before .before .before .before .before .before .before .before .before in
+    let a = s .args in
+    let l = c .before .before .before .loop in (
+      s .pre .0,
+      omega (arith, s .pre .1, l .inv .1 .size),
+      omega (arith, c .before .before .loop-test .taken),
+      s .pre .2 .places,
+      gathered-clean (a .w) (a .h) (a .p) (a .element) (a .cut) (sheet-bytes (s .pre .0)) (now (a .labels)) (s .pre .2) (l .n) (now (a .work)) (l .work) (l .inv .1),
+      l .inv .3,
+      omega (arith, l .inv .2, s .pre .0 .frame .down),
+    )
+
+sub-n : tie.Need-sub-n Inv-loop μ-loop
+sub-n c =
+    omega (arith, c .before .before .before .before .before .before .loop-test .taken)
+
+loop-less : tie.Need-loop-less Inv-loop μ-loop
+loop-less c =
+    omega (arith, c .before .before .before .before .before .before .loop-test .taken)
+
+loop-again : tie.Need-loop-again Inv-loop μ-loop
+loop-again c =
+    let s = c .before .before .before .before .before .before .before .before .before .before .before .before .before .before .before in
+    let a = s .args in
+    let l = c .before .before .before .before .before .before .before .loop in (
+      omega (arith, l .inv .0),
+      gathered-more (a .w) (a .h) (a .p) (a .element) (a .cut) (sheet-bytes (s .pre .0)) (now (a .labels)) (s .pre .2) (l .n) (now (a .work)) (l .work) _ (c .before .before .before .before .before .before .loop-test .taken) (l .inv .1) (c .before .before .before .grow .ensures .0),
+      c .before .before .before .grow .kept .1 .1 .1 .1 .1 .1 .1 .0 ∙ l .inv .2,
+      c .before .before .before .grow .ensures .1,
+    )
+
+same-length : tie.Need-same-length Inv-loop μ-loop
+same-length c =
+    c .before .loop .inv .1 .size
+
+returns-2 : tie.Need-returns-2 Inv-loop μ-loop
+returns-2 c =
+    let s = c .before .before .before .before .before .before .before .before .before in
+    let a = s .args in
+    let l = c .before .loop in
+    gathered-last (a .w) (a .h) (a .p) (a .element) (a .cut) (sheet-bytes (s .pre .0)) (now (a .labels)) (s .pre .2) (l .n) (now (a .work)) (l .work) (omega (arith, c .loop-test .left)) (l .inv .1)
+
+pub gather-spec : {M : Type 1} → statement M
+gather-spec =
+    tie.close
+    (tie.spec
+    Inv-loop
+    μ-loop
+    greatest-requires
+    cast-n
+    returns
+    slice-aggregate-row-tops
+    row-tops-requires
+    loop-holds
+    cast-grow
+    slice-aggregate-grow
+    grow-requires
+    sub-n
+    loop-less
+    loop-again
+    same-length
+    returns-2)

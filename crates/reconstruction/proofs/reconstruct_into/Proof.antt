@@ -1,0 +1,104 @@
+-- `reconstruction::reconstruct_into` meets its contract.
+use mathlib.Core.Path.{_∙_, sym}
+use Prim.Native.Nat.{_*_, _+_, _/_, ℕ}
+use native.Mathlib.Omega.{arith}
+use borrow.Author.Needs.{needs}
+use denote.Ref.{now}
+use lib.ListN.{length-replicate, replicate}
+use lib.Seq.{length-take-le}
+use Rattle.morphology.specs.Element.{offsets}
+use Rattle.morphology.specs.Skeleton.{reconstruction}
+use Rattle.iteration.proofs.StepLaws.{sheet-bytes, sheet-small, wrote}
+use Rattle.reconstruction.proofs.GatherLaws.{emptied, gathered-cleans, gathered-dilated, kept-on, kept-sheet}
+use Rattle.reconstruction.proofs.reconstruct_into.Statement.{statement}
+use Rattle.reconstruction.proofs.reconstruct_into.Tie as tie
+
+add-r : tie.Need-add-r
+add-r c = search needs
+
+mul-p : tie.Need-mul-p
+mul-p c =
+    let s = c .before .before .before in
+    let k = kept-sheet (s .pre) in
+    let p = s .args .h * ((s .args .w + 7) / 8) in
+    omega (arith, sheet-small k)
+
+slice-relend-prefix-fill : tie.Need-slice-relend-prefix-fill
+slice-relend-prefix-fill c =
+    let s = c .before .before .before in
+    let p = s .args .h * ((s .args .w + 7) / 8) in
+    omega (arith, s .pre .work, sheet-bytes (kept-sheet (s .pre)))
+
+slice-aggregate-fill : tie.Need-slice-aggregate-fill
+slice-aggregate-fill c =
+    let s = c .before .before .before .before in
+    let p = s .args .h * ((s .args .w + 7) / 8) in
+    sym (length-take-le p (now (s .args .work)) (omega (arith, s .pre .work, sheet-bytes (kept-sheet (s .pre)))))
+
+fill-requires : tie.Need-fill-requires
+fill-requires c κs = search needs
+
+gather-requires : tie.Need-gather-requires
+gather-requires c κs =
+    let s = c .before .before .before .before .before .before .before .before in
+    let a = s .args in
+    let p = a .h * ((a .w + 7) / 8) in
+    let q = sheet-bytes (kept-sheet (s .pre)) in
+    let v = emptied p (now (a .work)) _ (omega (arith, s .pre .work, q)) (c .before .before .before .fill .ensures) in
+    (kept-sheet (s .pre), omega (arith, v .size, s .pre .work, q), s .pre .labels, v .first)
+
+dilate-times-requires : tie.Need-dilate-times-requires
+dilate-times-requires c κs =
+    let s = c .before .before .before .before .before .before .before .before .before .before .before .before in
+    let a = s .args in
+    let p = a .h * ((a .w + 7) / 8) in
+    let q = sheet-bytes (kept-sheet (s .pre)) in
+    let v = emptied p (now (a .work)) _ (omega (arith, s .pre .work, q)) (c .before .before .before .before .before .before .before .fill .ensures) in
+    let g = c .before .before .before .gather .ensures in (
+      kept-sheet (s .pre),
+      omega (arith, v .size, g .size, s .pre .work, q),
+      gathered-cleans (a .w) (a .h) p (a .element) (a .cut) q (now (a .labels)) (s .pre .labels) _ _ g,
+    )
+
+hand-out-requires : tie.Need-hand-out-requires
+hand-out-requires c κs =
+    let s = c .before .before .before .before .before .before .before .before .before .before .before .before .before .before .before .before .before in
+    let a = s .args in
+    let p = a .h * ((a .w + 7) / 8) in
+    let q = sheet-bytes (kept-sheet (s .pre)) in
+    let v = emptied p (now (a .work)) _ (omega (arith, s .pre .work, q)) (c .before .before .before .before .before .before .before .before .before .before .before .before .fill .ensures) in
+    (omega (arith, v .size, c .before .before .before .before .before .before .before .before .gather .ensures .size, c .before .before .before .before .dilate-times .ensures .size, s .pre .work, q), s .pre .image ∙ sym q, sheet-small (kept-sheet (s .pre)))
+
+same-length : tie.Need-same-length
+same-length c = search needs
+
+same-length-2 : tie.Need-same-length-2
+same-length-2 c = search needs
+
+returns : tie.Need-returns
+returns c =
+    let s = c .before .before .before .before .before .before .before .before .before .before .before .before .before .before .before .before .before .before .before .before .before .before in
+    let a = s .args in
+    let p = a .h * ((a .w + 7) / 8) in
+    let q = sheet-bytes (kept-sheet (s .pre)) in
+    let v = emptied p (now (a .work)) _ (omega (arith, s .pre .work, q)) (c .before .before .before .before .before .before .before .before .before .before .before .before .before .before .before .before .before .fill .ensures) in
+    let t = s .pre .labels in
+    wrote (a .w) (a .h) p _ (reconstruction (a .w) (a .h) (offsets (a .element)) (a .cut) (now (a .labels))) (replicate p 0) (now (a .work)) _ _ _ _ q
+    (kept-on (a .w) (a .h) p (a .element) (a .cut) q (now (a .labels)) t) (length-replicate {A = ℕ} p 0) (v .zeros)
+    (gathered-dilated (a .w) (a .h) p (a .element) (a .cut) q (now (a .labels)) t _ _ _ (c .before .before .before .before .before .before .before .before .before .before .before .before .before .gather .ensures) (c .before .before .before .before .before .before .before .before .before .dilate-times .ensures)) (c .before .before .before .before .hand-out .ensures)
+
+pub reconstruct-into-spec : {M : Type 1} → statement M
+reconstruct-into-spec =
+    tie.close
+    (tie.spec
+    add-r
+    mul-p
+    slice-relend-prefix-fill
+    slice-aggregate-fill
+    fill-requires
+    gather-requires
+    dilate-times-requires
+    hand-out-requires
+    same-length
+    same-length-2
+    returns)

@@ -1,0 +1,36 @@
+-- Labels reconstructed: their points joined from the largest on, with a dilation between two sizes. Definitions only; proofs/GatherLaws.antt has the laws.
+use mathlib.Core.Bool.{Bool, _||_, false}
+use mathlib.Core.List.{List}
+use mathlib.Core.Path.{_≡_}
+use Prim.Native.Nat.{_*_, _+_, _/_, _≤_, ℕ}
+use lib.Dec.{T, eqb}
+use lib.ListN.{length}
+use Rattle.morphology.specs.Element.{isElement, offsets}
+use Rattle.morphology.specs.Image.{imageSet, planeBytes}
+use Rattle.morphology.specs.Labels.{labelAt}
+use Rattle.morphology.specs.Partial.{partialUnion}
+use Rattle.morphology.specs.Point.{Point}
+use Rattle.morphology.specs.Refusals.{isWild}
+use Rattle.planes.specs.Frames.{Frame}
+use Rattle.iteration.specs.Steps.{dilated}
+
+-- the points of sizes from n on, still to be dilated n times
+abbrev pub gathered : ℕ → ℕ → List Point → List ℕ → ℕ → (Point → Bool)
+gathered W H B m n = partialUnion W H B n (labelAt W H m)
+
+-- the plane dilated once, and the points with label v
+abbrev pub grown : ℕ → ℕ → List Point → List ℕ → ℕ → List ℕ → (Point → Bool)
+grown W H B m v plane z = eqb (labelAt W H m z) v || dilated W H B 1 (imageSet W H plane) z
+
+-- an element and labels of a frame, of which no point from cut k on leaves it
+pub record Tame (W H e k : ℕ) (m : List ℕ) : Type 0 where
+  pub places : length m ≡ W * H
+  pub element : T (isElement e)
+  pub stays : isWild W H (offsets e) k m ≡ false
+
+-- labels and buffers that the rows 1, 2, 3 and 5 let pass
+pub record Kept (W H e k : ℕ) (m s w : List ℕ) : Type 0 where
+  pub frame : Frame W H ((W + 7) / 8)
+  pub labels : Tame W H e k m
+  pub image : length s ≡ planeBytes W H
+  pub work : 3 * planeBytes W H ≤ length w

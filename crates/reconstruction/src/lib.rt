@@ -1,0 +1,78 @@
+// Labels reconstructed in the first plane of work: from the largest size down to a cut.
+ghost use mathlib.Core.Path.{_≡_};
+ghost use Prim.Native.Nat.{_*_, _-_, _<_, _≤_};
+ghost use lib.Dec.{T};
+ghost use lib.ListN.{length, replicate, take};
+ghost use Rattle.morphology.specs.Element.{offsets};
+ghost use Rattle.morphology.specs.Image.{isClean};
+ghost use Rattle.morphology.specs.Skeleton.{reconstruction};
+ghost use Rattle.label_read.specs.Points.{Tops};
+ghost use Rattle.iteration.specs.Steps.{First, Sheet, Wrote};
+ghost use Rattle.reconstruction.specs.Gathered.{Kept, Tame, gathered, grown};
+
+// One size of a reconstruction: the first plane dilated, and the points with label v joined to it. tops holds each row's largest label not above v, and then that below v.
+fn grow(
+    w: usize,
+    h: usize,
+    r: usize,
+    p: usize,
+    element: u32,
+    v: u8,
+    labels: &[u8],
+    tops: &mut [u8],
+    work: &mut [u8],
+)
+    requires { ⌜ Sheet w h r p × (2 * p ≤ length (now work)) × (0 < v) × (length (now labels) ≡ w * h) × T (isClean w h (now work)) × Tops w h v (now labels) (now tops) × (h ≤ length (now tops)) ⌝ }
+    ensures work { λ _. ⌜ First w h p (grown w h (offsets element) (now (labels .entry)) v (now (work .entry))) (now (work .entry)) (now (work .exit)) ⌝ }
+    ensures tops { λ _. ⌜ Tops w h (v - 1) (now (labels .entry)) (now (tops .exit)) ⌝ }
+{
+    iteration::dilate_times(w, h, r, p, element, 1, work);
+    label_read::add_points(labels, tops, w, h, r, v, &mut work[..p]);
+}
+
+// The sizes from the largest down to the cut, gathered in an empty first plane.
+fn gather(
+    w: usize,
+    h: usize,
+    r: usize,
+    p: usize,
+    element: u32,
+    cut: u32,
+    labels: &[u8],
+    work: &mut [u8],
+)
+    requires { ⌜ Sheet w h r p × (2 * p ≤ length (now work)) × Tame w h element cut (now labels) × (take p (now work) ≡ replicate p 0) ⌝ }
+    ensures { λ _. ⌜ First w h p (gathered w h (offsets element) (now (labels .entry)) cut) (now (work .entry)) (now (work .exit)) ⌝ }
+{
+    let mut n = label_read::greatest(labels) as u32;
+    if n <= cut {
+        return;
+    }
+    let mut tops = [0u8; raster::MAX_FRAME];
+    label_read::row_tops(labels, w, h, &mut tops);
+    while cut < n {
+        grow(w, h, r, p, element, n as u8, labels, &mut tops, work);
+        n = n - 1;
+    }
+}
+
+// Labels that are not refused, reconstructed at a cut into image.
+pub fn reconstruct_into(
+    w: usize,
+    h: usize,
+    element: u32,
+    cut: u32,
+    labels: &[u8],
+    image: &mut [u8],
+    work: &mut [u8],
+) -> u32
+    requires { ⌜ Kept w h element cut (now labels) (now image) (now work) ⌝ }
+    ensures { λ a. ⌜ Wrote w h (reconstruction w h (offsets element) cut (now (labels .entry))) a (now (image .exit)) (now (work .entry)) (now (work .exit)) ⌝ }
+{
+    let r = (w + 7) / 8;
+    let p = h * r;
+    raster::fill(&mut work[..p], 0);
+    gather(w, h, r, p, element, cut, labels, work);
+    iteration::dilate_times(w, h, r, p, element, cut, work);
+    iteration::hand_out(p, image, work)
+}
