@@ -1,7 +1,7 @@
 -- Passes of thinning until one is idle, in the image and the first plane of work, and the promise of the whole call.
 use mathlib.Core.List.{List, [], _++_, _∷_}
 use mathlib.Core.Path.{_∙_, _≡_, ap, ap₂, refl, subst, sym}
-use Prim.Native.Nat.{_*_, _+_, _-_, _<_, _^_, _≤_, ℕ}
+use Prim.Native.Nat.{_*_, _+_, _-_, _<_, _≤_, ℕ}
 use native.Mathlib.Nat.{mul-le-mul-right}
 use native.Mathlib.Omega.{arith}
 use borrow.Author.Tests.{ne-eqb}
@@ -15,6 +15,7 @@ use Rattle.morphology.specs.Thinning.{golayL, thinPass}
 use Rattle.morphology.proofs.AreaLaws.{area-ones}
 use Rattle.morphology.proofs.PlaneLaws.{Plane, area-le}
 use Rattle.morphology.proofs.ThinningLaws.{less, points}
+use Rattle.raster.specs.Limits.{maxFrame}
 use Rattle.planes.specs.Frames.{Frame}
 use Rattle.thinning.specs.Passes.{Ended, Leaves}
 use Rattle.thinning.proofs.ThinTurns.{Passed, passed-bound, passed-last, passed-start, passed-turn, plane-pass, thin-outcome}
@@ -24,7 +25,7 @@ module _ (W H p : ℕ) where
   pub counted : (s : List ℕ) (n : ℕ) → Plane W H s → n ≡ onesOf s → n ≡ points W H s
   counted s n q e = e ∙ sym (area-ones W H s (q .size) (q .bytes) (q .clean))
 
-  pub points-small : (r : ℕ) (s : List ℕ) → Frame W H r → points W H s ≤ 2 ^ 20
+  pub points-small : (r : ℕ) (s : List ℕ) → Frame W H r → points W H s ≤ maxFrame * maxFrame
   points-small r s f = let a = f .across in let b = f .down in omega (arith, area-le W H (imageSet W H s), mul-le-mul-right H a)
 
   -- s thinned by n passes, none of them idle: t, with an area of l
