@@ -81,10 +81,10 @@ use Rattle.morphology.proofs.Cases.{settled}
 use Rattle.morphology.proofs.CoverLaws.{size-zero}
 use Rattle.morphology.proofs.ElementLaws.{Element, element}
 use Rattle.morphology.proofs.FrameLaws.{OnFrame}
-use Rattle.morphology.proofs.ImageLaws.{image-on, image-pack, pack-image}
+use Rattle.morphology.proofs.ImageLaws.{image-on, image-pack}
 use Rattle.morphology.proofs.LabelLaws.{length-raster, of-places, on-places}
 use Rattle.morphology.proofs.MorphologyLaws.{eroded-zero, open-zero, ⊆-of-eq}
-use Rattle.morphology.proofs.PlaneLaws.{byte-lt, on-sub}
+use Rattle.morphology.proofs.PlaneLaws.{byte-lt, on-sub, plane-back}
 use Rattle.morphology.proofs.ReconstructLaws.{reconstruction-on}
 use Rattle.morphology.proofs.RefusalLaws.{Clear, T-of-not, decompose-passes, false-of, good, reconstruct-passes, side-le, unless-in}
 use Rattle.morphology.proofs.SkeletonLaws.{label-above, label-formula, labels-le, open-on, reconstruction-open, skeleton-tame}
@@ -121,7 +121,7 @@ refuses-exactly = record {
 
 -- an accepted image is its set, packed
 canonical : (W H : ℕ) (image : List ℕ) → Image W H image → pack W H (imageSet W H image) ≡ image
-canonical W H image i = let g = good W H image (i .passes) in pack-image W H image (g .size) (λ k. byte-lt image k (i .bytes)) (g .clean)
+canonical W H image i = let g = good W H image (i .passes) in plane-back W H image (record { size = g .size; bytes = λ k. byte-lt image k (i .bytes); clean = g .clean })
 
 -- a decomposition that is let pass
 decomposed-is : (W H e : ℕ) (image m w : List ℕ) → Image W H image → T (isElement e) → Buffers W H m w

@@ -2,7 +2,7 @@
 use mathlib.Core.Bool.{Bool, false, not}
 use mathlib.Core.List.{List}
 use mathlib.Core.Path.{_∙_, _≡_, ap, fun-ext, subst, sym}
-use Prim.Native.Nat.{_*_, _+_, _-_, _<_, _^_, _≤_, suc, ℕ}
+use Prim.Native.Nat.{_*_, _+_, _-_, _<_, _≤_, suc, ℕ}
 use native.Mathlib.Decide.{decLt}
 use native.Mathlib.Nat.{mul-comm, mul-le-mul-right, suc-mul}
 use native.Mathlib.Numerals.{add-one}

@@ -1,6 +1,6 @@
 -- The covers of a map's points, counted up size by size and place by place.
-use mathlib.Core.Bool.{Bool, _&&_, _||_, cond, false, not, true}
-use mathlib.Core.List.{List, [], _∷_}
+use mathlib.Core.Bool.{Bool, _&&_, _||_, false, not, true}
+use mathlib.Core.List.{List}
 use mathlib.Core.Logic.{_≢_, _⊎_, inl, inr}
 use mathlib.Core.Path.{_∙_, _≡_, ap, ap₂, fun-ext, refl, subst, sym}
 use Prim.Native.Nat.{_*_, _+_, _-_, _<_, _≤_, suc, zero, zero-le, ℕ}
@@ -8,22 +8,21 @@ use native.Mathlib.Decide.{decLt, ℕ-discrete}
 use native.Mathlib.Nat.{add-zero}
 use native.Mathlib.Numerals.{add-one}
 use native.Mathlib.Omega.{arith}
-use borrow.Author.Tests.{eq-eqb, eqb-true, le-leb, le-ltb, lt-leb, lt-ltb, ne-eqb}
+use borrow.Author.Tests.{eq-eqb, le-leb, le-ltb, lt-leb, lt-ltb, ne-eqb}
 use lib.Dec.{T, eqb, eqb→eq, leb, leb→le, le→leb, ltb, ltb→lt}
 use lib.ListN.{getD, length, replicate, take}
 use lib.Seq.{ext-getD}
 use Rattle.morphology.specs.Labels.{place, raster}
-use Rattle.morphology.specs.Lists.{countOf, greatest, someOf, tabulate, upTo}
+use Rattle.morphology.specs.Lists.{countOf, greatest, tabulate, upTo}
 use Rattle.morphology.specs.Minimal.{covers}
 use Rattle.morphology.specs.Point.{Point}
 use Rattle.morphology.proofs.CountLaws.{count-le, count-none, digit, getD-greatest}
 use Rattle.morphology.proofs.ImageLaws.{length-row}
 use Rattle.morphology.proofs.LabelLaws.{getD-place, length-raster}
 use Rattle.morphology.proofs.PlaneLaws.{row-zeros}
-use Rattle.morphology.proofs.RefusalLaws.{or-out-false}
 use Rattle.morphology.proofs.TestLaws.{T-ext, and-l, and-r, or-l, or-out, or-r}
 use Rattle.minimal.specs.Bands.{inkAt}
-use Rattle.minimal.specs.Covers.{Stays, counts, cover, spread}
+use Rattle.minimal.specs.Covers.{Stays, counts, cover}
 use Rattle.minimal.specs.Moves.{Moved, Open, below, hits}
 use Rattle.minimal.specs.Sizes.{Counting, Shape, Tame, Without, before, coverTo}
 use Rattle.minimal.proofs.CoverCountLaws.{count-split, covers-dilate, covers-none}

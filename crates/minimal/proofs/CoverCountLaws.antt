@@ -12,17 +12,17 @@ use lib.Dec.{T, T-not, eqb, eqb·suc-zero, eqb→eq, leb, leb→le, le→leb}
 use lib.ListN.{getD, length, set}
 use lib.Seq.{getD-set-other}
 use Rattle.morphology.specs.Image.{inside, onFrame}
-use Rattle.morphology.specs.Labels.{place, places, pointsOf, raster}
+use Rattle.morphology.specs.Labels.{place, places, pointsOf}
 use Rattle.morphology.specs.Lists.{countOf, everyOf, someOf, tabulate, upTo}
 use Rattle.morphology.specs.Minimal.{covers, dropAt, dropSize, dropSizes, isRedundant, minimalBelow}
 use Rattle.morphology.specs.Morphology.{dilate, times}
 use Rattle.morphology.specs.Point.{Point, _⊞_, origin, samePoint}
 use Rattle.morphology.specs.Skeleton.{stamp}
 use Rattle.minimal.specs.Covers.{Stays, counts, cover, spread}
-use Rattle.morphology.proofs.CountLaws.{count-le, count-none, count-some, count-suc, digit, digit-some}
+use Rattle.morphology.proofs.CountLaws.{count-none, count-some, digit, digit-some}
 use Rattle.morphology.proofs.CoverLaws.{in-upTo, of-upTo}
 use Rattle.morphology.proofs.FrameLaws.{OnFrame}
-use Rattle.morphology.proofs.ImageLaws.{length-row, row-mem}
+use Rattle.morphology.proofs.ImageLaws.{row-mem}
 use Rattle.morphology.proofs.LabelLaws.{getD-place, length-raster, on-places}
 use Rattle.morphology.proofs.MinimalLaws.{getD-dropped, minimal-sub, other}
 use Rattle.morphology.proofs.MorphologyLaws.{dilate-in, dilate-out}
@@ -79,10 +79,6 @@ count-split p i s (suc n) h l = go (count-split p i (suc s) n) (ℕ-discrete s i
 -- ---- cover counts
 
 module _ (W H : ℕ) (B : List Point) where
-  pub cover-le : (m : List ℕ) (z : Point) → cover W H B m z ≤ W * H
-  unfolding cover
-  cover-le m z = subst (λ (n : ℕ). countOf (covers W B m z) (upTo (W * H)) ≤ n) (length-row (λ j. j) 0 (W * H)) (count-le (covers W B m z) (upTo (W * H)))
-
   pub counts-length : (m : List ℕ) → length (counts W H B m) ≡ W * H
   counts-length m = length-raster W H (cover W H B m)
 

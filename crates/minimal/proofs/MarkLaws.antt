@@ -6,7 +6,7 @@ use Prim.Native.Nat.{_%_, _*_, _+_, _-_, _/_, _<_, _^_, _≤_, suc, ℕ}
 use native.Mathlib.Decide.{ℕ-discrete}
 use native.Mathlib.Nat.{div-add-mod', div-le-self, div-lt-iff-lt-mul, mod-lt, mul-comm, zero-add, zero-div}
 use native.Mathlib.Omega.{arith}
-use borrow.Author.Tests.{eq-eqb, eqb-true}
+use borrow.Author.Tests.{eq-eqb}
 use lib.Arith.{digits-div, digits-lt, digits-mod}
 use lib.Dec.{T, eqb, eqb→eq}
 use lib.IntN.{pos}
@@ -14,7 +14,7 @@ use lib.ListN.{drop, getD, getD-replicate, length, length-append, length-drop, l
 use lib.Seq.{drop-at, drop-drop, drop-set-lt, ext-getD, getD-set-other, getD-set-same, length-take-le, take-at, take-set-lt}
 use Rattle.morphology.specs.Image.{fromBits, pack, planeBytes, stride}
 use Rattle.morphology.specs.Lists.{tabulate}
-use Rattle.morphology.specs.Point.{Point, at, sameInteger, samePoint}
+use Rattle.morphology.specs.Point.{at, sameInteger, samePoint}
 use Rattle.morphology.proofs.ImageLaws.{bits-of, getD-row, length-row}
 use Rattle.morphology.proofs.RefusalLaws.{false-of}
 use Rattle.morphology.proofs.TestLaws.{T-ext, and-l, and-r, upto, upto-out}

@@ -2,14 +2,14 @@
 use mathlib.Core.Bool.{Bool, false}
 use mathlib.Core.List.{List, [], _++_, _∷_}
 use mathlib.Core.Path.{_∙_, _≡_, ap, ap₂, refl, subst, sym}
-use Prim.Native.Nat.{_*_, _+_, _/_, _<_, _≤_, suc, zero-le, ℕ}
-use native.Mathlib.Nat.{mul-comm, mul-le-mul, mul-pos}
+use Prim.Native.Nat.{_*_, _+_, _/_, _<_, _≤_, zero-le, ℕ}
+use native.Mathlib.Nat.{mul-le-mul, mul-pos}
 use native.Mathlib.Omega.{arith}
 use borrow.Author.Tests.{ltb-false}
 use lib.Dec.{T}
 use lib.ListN.{drop, getD, length, replicate}
 use lib.Seq.{drop-drop}
-use Rattle.morphology.specs.Answers.{Outcome, minimal, outcome, refused}
+use Rattle.morphology.specs.Answers.{minimal, outcome, refused}
 use Rattle.morphology.specs.Element.{isElement, offsets}
 use Rattle.morphology.specs.Image.{planeBytes}
 use Rattle.morphology.specs.Labels.{maxLabel, place, pointsOf}

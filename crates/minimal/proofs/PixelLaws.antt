@@ -1,15 +1,15 @@
 -- The pixels of bytes in a row, and of rows in a plane.
-use mathlib.Core.Bool.{Bool, _&&_, false}
+use mathlib.Core.Bool.{Bool, false}
 use mathlib.Core.List.{List}
-use mathlib.Core.Path.{_∙_, _≡_, ap, ap₂, subst, sym}
+use mathlib.Core.Path.{_∙_, _≡_, ap, subst, sym}
 use Prim.Native.Nat.{_%_, _*_, _+_, _-_, _/_, _<_, _≤_, zero-le, ℕ}
 use native.Mathlib.Decide.{decLt}
 use native.Mathlib.Nat.{div-lt-iff-lt-mul, le-div-iff-mul-le, mod-lt, mul-comm, mul-le-mul-right}
 use native.Mathlib.Omega.{arith}
-use lib.Dec.{T, ltb, ltb→lt}
+use lib.Dec.{T, ltb→lt}
 use lib.IntN.{pos}
 use lib.ListN.{getD}
-use Rattle.morphology.specs.Image.{bitOf, imageSet, inside, pixel, stride}
+use Rattle.morphology.specs.Image.{bitOf, imageSet, stride}
 use Rattle.morphology.specs.Point.{at}
 use Rattle.morphology.proofs.ImageLaws.{image-on}
 use Rattle.morphology.proofs.LabelLaws.{place-at}

@@ -1,5 +1,5 @@
 -- Places without a label, block by block and one by one.
-use mathlib.Core.Bool.{Bool, _||_, false}
+use mathlib.Core.Bool.{false}
 use mathlib.Core.List.{List, [], _∷_}
 use mathlib.Core.Path.{_∙_, _≡_, ap, subst, sym}
 use Prim.Native.Nat.{_+_, _-_, _<_, _≤_, suc, zero, ℕ}

@@ -1,17 +1,17 @@
 -- The plane of a size, moved to a point of that size, is what the point covers.
-use mathlib.Core.Bool.{Bool, _&&_}
-use mathlib.Core.List.{List, List·Memᴰ}
+use mathlib.Core.Bool.{Bool}
+use mathlib.Core.List.{List}
 use mathlib.Core.Path.{_∙_, _≡_, ap, refl, subst, sym}
 use Prim.Native.Nat.{_%_, _*_, _+_, _-_, _/_, _<_, _≤_, suc, ℕ}
 use native.Mathlib.Nat.{div-lt-iff-lt-mul, mod-lt, mul-comm}
 use native.Mathlib.Omega.{arith}
-use lib.Dec.{T, leb, leb→le, le→leb, ltb, lt→ltb}
+use lib.Dec.{T, leb, le→leb, ltb, lt→ltb}
 use lib.ListN.{drop, getD, length, take}
 use lib.Seq.{getD-take, length-take-le}
 use Rattle.morphology.specs.Element.{offsets}
-use Rattle.morphology.specs.Image.{clip, imageSet, inside, isClean, planeBytes}
+use Rattle.morphology.specs.Image.{clip, imageSet, inside}
 use Rattle.morphology.specs.Labels.{place}
-use Rattle.morphology.specs.Morphology.{dilate, times}
+use Rattle.morphology.specs.Morphology.{dilate}
 use Rattle.morphology.specs.Point.{Point}
 use Rattle.morphology.proofs.ElementLaws.{element}
 use Rattle.morphology.proofs.FrameLaws.{OnFrame}

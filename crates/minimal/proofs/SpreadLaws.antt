@@ -1,13 +1,13 @@
 -- In place indices a cover is any other of its size, moved by the distance of their points: both stay on the frame.
 use mathlib.Core.Bool.{Bool, _&&_, cond}
-use mathlib.Core.List.{List, List·Memᴰ}
-use mathlib.Core.Path.{_∙_, _≡_, ap, ap₂, refl, subst, sym}
+use mathlib.Core.List.{List}
+use mathlib.Core.Path.{_∙_, _≡_, ap, subst, sym}
 use Prim.Native.Nat.{_%_, _*_, _+_, _-_, _/_, _<_, _≤_, suc, ℕ}
 use native.Mathlib.Decide.{decLt}
 use native.Mathlib.Nat.{add-mul, div-add-mod'}
 use native.Mathlib.Omega.{arith}
 use borrow.Author.Tests.{le-ltb, lt-ltb}
-use lib.Dec.{T, leb, leb→le, le→leb, ltb}
+use lib.Dec.{T, leb, leb→le, le→leb}
 use lib.IntN.{_+ℤ_, natAbs, negsuc, pos, pos-ne-negsuc, subℕ, ℤ}
 use Rattle.morphology.specs.Labels.{place}
 use Rattle.morphology.specs.Morphology.{times}

@@ -8,20 +8,20 @@ use native.Mathlib.Nat.{add-zero}
 use native.Mathlib.Numerals.{add-one}
 use native.Mathlib.Omega.{arith}
 use borrow.Author.Tests.{eq-eqb, ne-eqb}
-use lib.Dec.{T, T-not, eqb, eqb→eq, leb, leb→le, le→leb, ltb}
+use lib.Dec.{T, T-not, eqb, eqb→eq, leb, leb→le, le→leb}
 use lib.ListN.{getD, length, length-set, set, take}
 use lib.Seq.{ext-getD}
 use Rattle.morphology.specs.Labels.{place}
 use Rattle.morphology.specs.Lists.{greatest, upTo}
 use Rattle.morphology.specs.Minimal.{dropAt, dropSize, isRedundant, minimalBelow, minimalLabels}
 use Rattle.morphology.specs.Point.{Point}
-use Rattle.morphology.proofs.CoverLaws.{in-upTo, of-upTo}
+use Rattle.morphology.proofs.CoverLaws.{in-upTo}
 use Rattle.morphology.proofs.MinimalLaws.{Sub, minimal-sub, size-sub, sub-label}
 use Rattle.morphology.proofs.RefusalLaws.{false-of}
 use Rattle.morphology.proofs.TestLaws.{T-ext, all-in, all-out, and-l, and-r, decide, or-l, or-out, or-r}
 use Rattle.minimal.specs.Bands.{inkAt}
 use Rattle.minimal.specs.Covers.{Stays, counts, spread}
-use Rattle.minimal.specs.Moves.{Moved, Open, Twice, Within, below, counted, hits}
+use Rattle.minimal.specs.Moves.{Moved, Open, Twice, Within, below, hits}
 use Rattle.minimal.specs.Sizes.{Shape, Tame, Without}
 use Rattle.minimal.specs.Walks.{Stepped, Walked}
 use Rattle.minimal.proofs.CoverCountLaws.{allTwice, counters-drop, counts-length, drop-turn, minimal-start, minimal-turn, size-start, size-turn}

@@ -94,9 +94,6 @@ take-greatest [] i h = absurd (not-suc-le-zero h)
 take-greatest (v ∷ l) zero h = refl
 take-greatest (v ∷ l) (suc i) h = omega (arith, take-greatest l i (le-of-suc-le-suc h))
 
-pub greatest-take : (l : List ℕ) (i : ℕ) → i < length l → greatest (take (i + 1) l) ≡ max (greatest (take i l)) (getD l i 0)
-greatest-take l i h = ap (λ (k : ℕ). greatest (take k l)) (add-one i) ∙ take-greatest l i h
-
 -- ---- tests, index by index
 
 pub any-suc : {A : Type 0} (p : A → Bool) (f : ℕ → A) (i n : ℕ) → someOf p (tabulate f i (suc n)) ≡ (someOf p (tabulate f i n) || p (f (i + n)))

@@ -7,7 +7,7 @@ use native.Mathlib.Decide.{decLt}
 use native.Mathlib.Nat.{suc-add, zero-add}
 use native.Mathlib.Omega.{arith}
 use lib.Dec.{T, eqb, eqb·suc-zero, not-T}
-use lib.ListN.{getD, replicate}
+use lib.ListN.{replicate}
 use Rattle.morphology.specs.Answers.{Answer, blank, outcome, skeleton}
 use Rattle.morphology.specs.Labels.{area, place, places, pointsOf, raster}
 use Rattle.morphology.specs.Lists.{greatest, tabulate}
@@ -19,7 +19,7 @@ use Rattle.morphology.proofs.CountLaws.{count-sum, digit, greatest-in, 
 use Rattle.morphology.proofs.ElementLaws.{Element}
 use Rattle.morphology.proofs.FrameLaws.{OnFrame}
 use Rattle.morphology.proofs.ImageLaws.{mem-row, row-mem}
-use Rattle.morphology.proofs.LabelLaws.{getD-place, on-places}
+use Rattle.morphology.proofs.LabelLaws.{on-places}
 use Rattle.morphology.proofs.MorphologyLaws.{dilate-out, eroded-suc, eroded-zero, ⊆-of-eq}
 use Rattle.morphology.proofs.PlaneLaws.{Empty, on-sub, row-zeros, some-point}
 use Rattle.morphology.proofs.SkeletonLaws.{eroded-empty, label-le}
@@ -63,25 +63,6 @@ pub function-turn : (B : List Point) (X : Point → Bool) (n : ℕ) (z : Point)
     → skeletonFunction B X (suc n) z ≡ cond (skeletonSubset B X n z) (suc n) (skeletonFunction B X n z)
 unfolding skeletonFunction pick
 function-turn B X n z = refl
-
--- turn n writes n + 1 at the places of X(n) that are not in the dilated X(n + 1), and nothing elsewhere
-pub labels-turn : (W H : ℕ) (B : List Point) (X : Point → Bool) (n i : ℕ) → i < W * H
-    → getD (labelsBelow W H B X (suc n)) i 0
-    ≡ cond (erode (times B n) X (place W i) && not (dilate B (erode (times B (suc n)) X) (place W i))) (suc n) (getD (labelsBelow W H B X n) i 0)
-labels-turn W H B X n i h =
-    let z = place W i in
-    getD-place W H (skeletonFunction B X (suc n)) i h ∙ function-turn B X n z
-    ∙ ap (λ (b : Bool). cond b (suc n) (skeletonFunction B X n z)) (subset-turn B X n z)
-    ∙ ap (λ (v : ℕ). cond (erode (times B n) X z && not (dilate B (erode (times B (suc n)) X) z)) (suc n) v) (sym (getD-place W H (skeletonFunction B X n) i h))
-
--- a turn without a point of its size
-pub labels-still : (W H : ℕ) (B : List Point) (X : Point → Bool) (n : ℕ) → Empty (skeletonSubset B X n)
-    → labelsBelow W H B X (suc n) ≡ labelsBelow W H B X n
-labels-still W H B X n e = ap (raster W H) (fun-ext (λ z. function-turn B X n z ∙ go z (skeletonSubset B X n z) (e z)))
-  where
-    go : (z : Point) (b : Bool) → (T b → ⊥) → cond b (suc n) (skeletonFunction B X n z) ≡ skeletonFunction B X n z
-    go z true f = absurd (f tt)
-    go z false f = refl
 
 module _ (W H : ℕ) (B : List Point) (ob : List·Memᴰ origin B) (X : Point → Bool) where
   -- what turn n writes was 0

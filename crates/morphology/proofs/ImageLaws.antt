@@ -10,12 +10,11 @@ use borrow.Author.Tests.{le-ltb, lt-ltb}
 use lib.Arith.{digits-div, digits-lt, digits-mod}
 use lib.Dec.{T, eqb, ltb, ltb→lt, lt→ltb, not-T}
 use lib.IntN.{negsuc, pos, ℤ}
-use lib.ListN.{drop, getD, length, length-append, length-drop, length-replicate, replicate}
+use lib.ListN.{getD, length}
 use lib.Pow.{areBytes, field, high, pow-add, pow-pos, shr-lt, split}
 use lib.Seq.{ext-getD}
 use Rattle.morphology.specs.Image.{bitOf, clip, fromBits, imageSet, inside, isClean, pack, pixel, planeBytes, stride}
 use Rattle.morphology.specs.Lists.{everyOf, tabulate, upTo}
-use Rattle.morphology.specs.Operations.{cleared}
 use Rattle.morphology.specs.Point.{Point, at}
 use Rattle.morphology.proofs.FrameLaws.{OnFrame, far}
 use Rattle.morphology.proofs.TestLaws.{T-ext, all-in, all-out, and-in, and-l, and-r}
@@ -252,12 +251,6 @@ clean-pack W H X on =
     s = pack W H X
 
 -- ---- work
-
-pub length-cleared : (W H : ℕ) (work : List ℕ) → 3 * planeBytes W H ≤ length work → length (cleared W H work) ≡ length work
-unfolding cleared
-length-cleared W H work h =
-    let n = 3 * planeBytes W H in
-    length-append (replicate n 0) (drop n work) ∙ ap₂ (λ (a b : ℕ). a + b) (length-replicate n 0) (length-drop n work) ∙ omega arith
 
 -- ---- only the first P bytes matter
 

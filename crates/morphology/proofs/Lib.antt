@@ -20,6 +20,5 @@ pub mod PlaneLaws
 pub mod BandLaws
 pub mod DecomposeLaws
 pub mod ReconstructLaws
-pub mod OutcomeLaws
 pub mod FoldTurns
 pub mod Cases

@@ -1,5 +1,5 @@
 -- Planes as bytes and as sets: equal, empty, on the frame.
-use mathlib.Core.Bool.{Bool, _&&_, false, not, true}
+use mathlib.Core.Bool.{Bool, false, not}
 use mathlib.Core.List.{List, [], _∷_}
 use mathlib.Core.Logic.{_⊎_, inl, inr}
 use mathlib.Core.Path.{_∙_, _≡_, ap, ap₂, refl, subst, sym}
@@ -15,7 +15,7 @@ use Rattle.morphology.specs.Labels.{area, place, places}
 use Rattle.morphology.specs.Lists.{countOf, someOf, tabulate}
 use Rattle.morphology.specs.Point.{Point}
 use Rattle.morphology.proofs.AreaLaws.{area-ones}
-use Rattle.morphology.proofs.CountLaws.{count-le, count-none, count-some, count-suc, count-sum, digit}
+use Rattle.morphology.proofs.CountLaws.{count-le, count-suc, digit}
 use Rattle.morphology.proofs.FrameLaws.{OnFrame}
 use Rattle.morphology.proofs.ImageLaws.{bytes-pack, clean-pack, image-pack, length-pack, length-row, pack-image}
 use Rattle.morphology.proofs.LabelLaws.{on-places}
@@ -63,10 +63,6 @@ plane-pack W H X on = record {
 pub plane-back : (W H : ℕ) (s : List ℕ) → Plane W H s → pack W H (imageSet W H s) ≡ s
 plane-back W H s p = pack-image W H s (p .size) (p .bytes) (p .clean)
 
--- equal bytes are equal sets
-pub plane-inj : (W H : ℕ) (s t : List ℕ) → Plane W H s → Plane W H t → imageSet W H s ≡ imageSet W H t → s ≡ t
-plane-inj W H s t p q e = sym (plane-back W H s p) ∙ ap (pack W H) e ∙ plane-back W H t q
-
 pub pack-inj : (W H : ℕ) (X Y : Point → Bool) → OnFrame W H X → OnFrame W H Y → pack W H X ≡ pack W H Y → X ≡ Y
 pack-inj W H X Y ox oy e = sym (image-pack W H X ox) ∙ ap (imageSet W H) e ∙ image-pack W H Y oy
 
@@ -92,24 +88,7 @@ pack-empty W H X e = ap (pack W H) (empty-eq X e) ∙ pack-none W H
 pub empty-pack : (W H : ℕ) (X : Point → Bool) → OnFrame W H X → pack W H X ≡ replicate (planeBytes W H) 0 → Empty X
 empty-pack W H X on e z t = subst (λ (Y : Point → Bool). T (Y z)) (pack-inj W H X none on (none-on W H) (e ∙ sym (pack-none W H))) t
 
-pub image-zeros : (W H : ℕ) → imageSet W H (replicate (planeBytes W H) 0) ≡ none
-image-zeros W H = ap (imageSet W H) (sym (pack-none W H)) ∙ image-pack W H none (none-on W H)
-
-pub plane-empty : (W H : ℕ) (s : List ℕ) → Plane W H s → Empty (imageSet W H s) → s ≡ replicate (planeBytes W H) 0
-plane-empty W H s p e = sym (plane-back W H s p) ∙ pack-empty W H (imageSet W H s) e
-
-pub empty-plane : (W H : ℕ) (s : List ℕ) → s ≡ replicate (planeBytes W H) 0 → Empty (imageSet W H s)
-empty-plane W H s e z t = subst (λ (Y : Point → Bool). T (Y z)) (ap (imageSet W H) e ∙ image-zeros W H) t
-
 -- ---- areas
-
-pub area-empty : (W H : ℕ) (X : Point → Bool) → Empty X → area W H X ≡ 0
-unfolding area
-area-empty W H X e = count-none X (places W H) (λ z m. e z)
-
-pub empty-area : (W H : ℕ) (X : Point → Bool) → OnFrame W H X → area W H X ≡ 0 → Empty X
-unfolding area
-empty-area W H X on e z t = omega (arith, count-some X (on-places W H X on z t) t)
 
 pub area-pack : (W H : ℕ) (X : Point → Bool) → OnFrame W H X → area W H X ≡ onesOf (pack W H X)
 area-pack W H X on =
@@ -136,17 +115,6 @@ area-turn W X i =
 pub area-last : (W H : ℕ) (X : Point → Bool) → areaBelow W X (W * H) ≡ area W H X
 unfolding areaBelow area places
 area-last W H X = refl
-
--- a set less a part of it
-pub area-less : (W H : ℕ) (X Y : Point → Bool) → Y ⊆ X → area W H X ≡ area W H (λ z. X z && not (Y z)) + area W H Y
-unfolding area places
-area-less W H X Y f = count-sum X (λ z. X z && not (Y z)) Y (place W) (place W) (place W) 0 (W * H) (λ i. by (X (place W i)) (Y (place W i)) (f (place W i)))
-  where
-    by : (a b : Bool) → (T b → T a) → digit a ≡ digit (a && not b) + digit b
-    by true true g = refl
-    by true false g = refl
-    by false true g = absurd (g tt)
-    by false false g = refl
 
 -- a set on the frame that is not empty has a point
 pub some-point : (W H : ℕ) (X : Point → Bool) → OnFrame W H X → (Empty X → ⊥) → (z : Point) × T (X z)

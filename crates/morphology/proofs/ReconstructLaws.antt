@@ -10,7 +10,7 @@ use native.Mathlib.Omega.{arith}
 use lib.Dec.{T, eqb, eqb-refl, eqb→eq, leb, leb→le, le→leb, ltb, ltb→lt}
 use lib.IntN.{negsuc, pos, ℤ}
 use lib.ListN.{getD}
-use Rattle.morphology.specs.Image.{imageSet, inside, onFrame, pack}
+use Rattle.morphology.specs.Image.{inside, onFrame}
 use Rattle.morphology.specs.Labels.{labelAt, places}
 use Rattle.morphology.specs.Lists.{everyOf, someOf}
 use Rattle.morphology.specs.Morphology.{dilate, times}
@@ -20,7 +20,6 @@ use Rattle.morphology.specs.Refusals.{isWild, leaves}
 use Rattle.morphology.specs.Skeleton.{reconstruct, reconstruction}
 use Rattle.morphology.proofs.ElementLaws.{Element}
 use Rattle.morphology.proofs.FrameLaws.{OnFrame}
-use Rattle.morphology.proofs.ImageLaws.{image-pack}
 use Rattle.morphology.proofs.LabelLaws.{in-places}
 use Rattle.morphology.proofs.MorphologyLaws.{_⊆_, dilate-in, dilate-sub, dilate-sum, dilate-zero, set-ext, sum-in, sum-out, times-add, times-suc}
 use Rattle.morphology.proofs.PlaneLaws.{Empty}
@@ -220,13 +219,6 @@ module _ (W H : ℕ) (B : List Point) (el : Element B) (m : List ℕ) where
 
     pub union-at-on : (n : ℕ) → k ≤ n → OnFrame W H (unionAt n)
     union-at-on n h = subst (OnFrame W H) (dilate-zero B (unionAt n)) (union-on n 0 h zero-le)
-
-    -- so that the planes hold the sets
-    pub image-union : (n : ℕ) → k ≤ n → imageSet W H (pack W H (unionAt n)) ≡ unionAt n
-    image-union n h = image-pack W H (unionAt n) (union-at-on n h)
-
-    pub image-dilated : (i : ℕ) → i ≤ k → imageSet W H (pack W H (dilate (times B i) (unionAt k))) ≡ dilate (times B i) (unionAt k)
-    image-dilated i h = image-pack W H (dilate (times B i) (unionAt k)) (union-on k i (le-refl k) h)
 
     pub reconstruction-on : OnFrame W H (reconstruction W H B k m)
     reconstruction-on = subst (OnFrame W H) (union-dilated k) (union-on k k (le-refl k) (le-refl k))

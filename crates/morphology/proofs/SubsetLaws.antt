@@ -9,10 +9,10 @@ use native.Mathlib.Omega.{arith}
 use lib.Arith.{lt-of-le-ne}
 use lib.Dec.{T, T-not, leb, leb→le, le→leb, nleb→lt}
 use Rattle.morphology.specs.Lists.{someOf}
-use Rattle.morphology.specs.Morphology.{dilate, erode, opening, times}
+use Rattle.morphology.specs.Morphology.{erode, opening, times}
 use Rattle.morphology.specs.Point.{Point, _⊞_, origin, samePoint}
 use Rattle.morphology.specs.Skeleton.{pick, reconstruct, skeletonFunction, skeletonSubset, stamp}
-use Rattle.morphology.proofs.MorphologyLaws.{_⊆_, dilate-in, dilate-mono, dilate-out, erode-out, erode-times, eroded-open, eroded-suc, eroded-zero, open-below, open-mono, open-sub, open-zero, set-ext, sum-in, times-suc, ⊆-of-eq}
+use Rattle.morphology.proofs.MorphologyLaws.{_⊆_, dilate-in, dilate-out, erode-out, erode-times, eroded-open, eroded-suc, eroded-zero, open-below, open-mono, open-sub, open-zero, set-ext, sum-in, times-suc, ⊆-of-eq}
 use Rattle.morphology.proofs.PointLaws.{assoc, comm, same-eq, same-refl, unit}
 use Rattle.morphology.proofs.TestLaws.{and-in, and-l, and-r, any-in, any-out, decide}
 
@@ -108,10 +108,6 @@ module _ (B : List Point) (ob : List·Memᴰ origin B) where
   pub opened-down : (X : Point → Bool) (k n : ℕ) → k ≤ n → opening (times B n) X ⊆ opening (times B k) X
   opened-down X k n h z t =
       open-mono (times B k) (opening (times B n) X) X (open-sub (times B n) X) z (⊆-of-eq (sym (open-below B n k X h)) z t)
-
-  dilate-open : (X : Point → Bool) (n : ℕ) (M : Point → Bool) → M ⊆ erode (times B n) X → dilate (times B n) M ⊆ opening (times B n) X
-  unfolding opening
-  dilate-open X n M q = dilate-mono (times B n) M (erode (times B n) X) q
 
   module _ (P : List Point) (X : Point → Bool) (N : ℕ) (inP : (z : Point) → T (X z) → List·Memᴰ z P) (gone : (z : Point) → T (erode (times B N) X z) → ⊥) where
     climb : (k d n : ℕ) → d + n ≡ N → k ≤ n → (x c : Point) → T (erode (times B n) X x) → List·Memᴰ c (times B n)

@@ -1,5 +1,5 @@
 -- Every operation of 01, whole: from its arguments and all lent bytes to its answer and all lent bytes afterwards, refusals included.
--- Arguments stand as the functions take them: numbers, what is read, what is written, work. Definitions only; proofs/OutcomeLaws.antt has the laws.
+-- Arguments stand as the functions take them: numbers, what is read, what is written, work. Definitions only.
 use mathlib.Core.Bool.{Bool}
 use mathlib.Core.List.{List, [], _++_, _∷_}
 use Prim.Native.Nat.{_*_, _-_, suc, zero, ℕ}

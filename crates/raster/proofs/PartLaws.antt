@@ -10,9 +10,9 @@ use native.Mathlib.Omega.{arith}
 use borrow.Author.Tests.{le-leb, le-ltb, lt-ltb}
 use lib.Dec.{leb, lit<, ltb}
 use lib.ListN.{List·getD-append, List·getD-eq-default, drop, getD, length, length-append, length-drop, length-set, set, take}
-use lib.Seq.{drop-at, drop-drop, drop-length, ext-getD, getD-append-add, getD-drop, getD-set-other, getD-set-same, getD-take, length-take-le, take-add, take-all, take-append-le, take-take}
+use lib.Seq.{drop-at, drop-drop, drop-length, ext-getD, getD-append-add, getD-drop, getD-set-other, getD-set-same, getD-take, length-take-le, take-add, take-all}
 use Rattle.morphology.specs.Image.{bitOf}
-use Rattle.raster.specs.Rows.{Pixelwise, RowIs, RowJoined, join, overwrite, rowBit}
+use Rattle.raster.specs.Rows.{Pixelwise, RowIs, overwrite, rowBit}
 use Rattle.raster.proofs.ByteLaws.{and-true, cleared-bit, started-bit}
 use Rattle.raster.proofs.RowLaws.{rowBit-same}
 
@@ -93,25 +93,10 @@ pub overwrite-all : (ys old : List ℕ) → length ys ≡ length old → overwri
 unfolding overwrite
 overwrite-all ys old e = ap (λ (l : List ℕ). ys ++ l) (ap (λ (n : ℕ). drop n old) (zero-add (length ys) ∙ e) ∙ drop-length old) ∙ append-nil ys
 
--- what stands before and after
-pub take-overwrite : (n a k : ℕ) (old ys : List ℕ) → length ys ≡ k → a + k ≤ length old → n ≤ a → take n (overwrite a ys old) ≡ take n old
-unfolding overwrite
-take-overwrite n a k old ys e h l =
-    take-append-le n (take a old) (ys ++ drop (a + length ys) old) (omega (arith, length-take-le a old (omega arith))) ∙ take-take n a old l
-
 pub drop-overwrite : (a k : ℕ) (old ys : List ℕ) → length ys ≡ k → a + k ≤ length old → drop a (overwrite a ys old) ≡ ys ++ drop (a + k) old
 unfolding overwrite
 drop-overwrite a k old ys e h =
     drop-at (take a old) (ys ++ drop (a + length ys) old) a (length-take-le a old (omega arith)) ∙ ap (λ (n : ℕ). ys ++ drop (a + n) old) e
-
-pub drop-past : (n a k : ℕ) (old ys : List ℕ) → length ys ≡ k → a + k ≤ length old → a + k ≤ n → drop n (overwrite a ys old) ≡ drop n old
-drop-past n a k old ys e h l =
-    let z : n ≡ a + (n - a) = omega arith in
-    let w : n - a ≡ k + (n - a - k) = omega arith in
-    let v : (a + k) + (n - a - k) ≡ n = omega arith in
-    ap (λ (i : ℕ). drop i (overwrite a ys old)) z ∙ sym (drop-drop (n - a) a (overwrite a ys old)) ∙ ap (drop (n - a)) (drop-overwrite a k old ys e h)
-    ∙ ap (λ (i : ℕ). drop i (ys ++ drop (a + k) old)) w ∙ sym (drop-drop (n - a - k) k (ys ++ drop (a + k) old))
-    ∙ ap (drop (n - a - k)) (drop-at ys (drop (a + k) old) k e) ∙ drop-drop (n - a - k) (a + k) old ∙ ap (λ (i : ℕ). drop i old) v
 
 -- the rest of a list from p on, lent, written over at a, and back
 pub overwrite-rest : (p j a k : ℕ) (old ys : List ℕ) → p ≤ length old → j ≡ length old - p → length ys ≡ k → p + a + k ≤ length old
@@ -168,36 +153,6 @@ pub pixelwise-part : (d r k : ℕ) (old ys : List ℕ) (g : ℕ → Bool → Boo
 pixelwise-part d r k old ys g e h m =
     let cut : length (take k (drop d old)) ≡ k = length-take-le k (drop d old) (omega (arith, length-drop d old)) in
     row-part d r k old ys (λ x. g x (rowBit old (8 * d + x))) e h (m .size ∙ cut) (λ x l. m .pixels x (omega arith) ∙ ap (g x) (cut-bit d k old x (omega arith)))
-
--- f joined to it
-pub joined-part : (t : Bool) (d r k : ℕ) (old ys : List ℕ) (f : ℕ → Bool) → k ≡ r → d + r ≤ length old → RowJoined t (take k (drop d old)) ys f
-    → RowIs d r old (take d old ++ (ys ++ drop k (drop d old))) (λ x. join t (rowBit old (8 * d + x)) (f x))
-joined-part t d r k old ys f e h m = pixelwise-part d r k old ys (λ x b. join t b (f x)) e h m
-
--- a row of a plane, the plane of k bytes lent from the middle of work and back
-pub lift : (p k at r : ℕ) (work ys : List ℕ) (g : ℕ → Bool) → p + k ≤ length work → at + r ≤ k → RowIs at r (take k (drop p work)) ys g
-    → RowIs (p + at) r work (take p work ++ (ys ++ drop k (drop p work))) g
-lift p k at r work ys g h l m =
-    let cut : length (take k (drop p work)) ≡ k = length-take-le k (drop p work) (omega (arith, length-drop p work)) in
-    let new : List ℕ = take p work ++ (ys ++ drop k (drop p work)) in
-    let q : PartIs p k work ys new = part-back p k work ys h (m .size ∙ cut) in
-    let within : (i : ℕ) → i < k → getD (take k (drop p work)) i 0 ≡ getD work (p + i) 0 = (λ i z. getD-take k (drop p work) i 0 z ∙ getD-drop p work i 0) in
-    let at-i : (j : ℕ) → p ≤ j → j < p + k → getD ys (j - p) 0 ≡ getD (take k (drop p work)) (j - p) 0 → getD new j 0 ≡ getD work j 0 =
-    (λ j a b e.
-    let z : p + (j - p) ≡ j = omega arith in
-    ap (λ (n : ℕ). getD new n 0) (sym z) ∙ q .within (j - p) (omega arith) ∙ e ∙ within (j - p) (omega arith) ∙ ap (λ (n : ℕ). getD work n 0) z) in
-    record {
-      size = q .size;
-      before = λ j i. either (decLt j p) (λ a. q .before j a) (λ a. at-i j a (omega arith) (m .before (j - p) (omega arith)));
-      after = λ j i. either (decLt j (p + k)) (λ a. at-i j (omega arith) a (m .after (j - p) (omega arith))) (λ a. q .after j a);
-      pixels = λ x i.
-          let z : 8 * (p + at) + x ≡ 8 * p + (8 * at + x) = omega arith in
-          ap (rowBit new) z ∙ part-bit q (8 * at + x) (omega arith) ∙ m .pixels x i;
-    }
-  where
-    either : {a b : ℕ} {C : Type 0} → Dec (a < b) → (a < b → C) → (b ≤ a → C) → C
-    either (yes z) f g = f z
-    either (no z) f g = g (omega arith)
 
 -- a part of bytes
 pub part-bytes : (a k : ℕ) (l : List ℕ) → ((i : ℕ) → getD l i 0 < 256) → a + k ≤ length l → (i : ℕ) → getD (take k (drop a l)) i 0 < 256

@@ -7,7 +7,7 @@ use native.Mathlib.Omega.{arith}
 use lib.Dec.{T, eqb, eqb→eq, leb, ltb, ltb→lt}
 use lib.IntN.{pos}
 use lib.ListN.{getD, length}
-use Rattle.morphology.specs.Element.{bit, isMask, maskOffsets, offset, offsets, offsetsBelow}
+use Rattle.morphology.specs.Element.{isMask, maskOffsets, offset, offsets, offsetsBelow}
 use Rattle.morphology.specs.Image.{imageSet, isClean, pack, stride}
 use Rattle.morphology.specs.Lists.{everyOf}
 use Rattle.morphology.specs.Morphology.{erode}

@@ -55,9 +55,6 @@ module _ (W H : ℕ) where
   pub masks-turn : (k : ℕ) (s : List ℕ) → k < 8 → masksBelow (k + 1) s ≡ thinStep W H (getD golayL k (0, 0)) (masksBelow k s)
   masks-turn k s h = ap (λ (ms : List (ℕ × ℕ)). thinPass W H ms s) (ap (λ (i : ℕ). take i golayL) (add-one k) ∙ take-suc golayL k (0, 0) h) ∙ pass-append (take k golayL) (getD golayL k (0, 0)) s
 
-  pub masks-last : (s : List ℕ) → masksBelow 8 s ≡ pass W H s
-  masks-last s = refl
-
   -- ---- passes
 
   -- the image of r with another number of passes

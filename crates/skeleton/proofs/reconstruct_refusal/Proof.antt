@@ -2,7 +2,6 @@
 use mathlib.Core.List.{[], _∷_}
 use mathlib.Core.Path.{_∙_, sym}
 use borrow.Author.Needs.{needs}
-use native.Mathlib.Omega.{arith}
 use denote.Ref.{now}
 use Rattle.morphology.specs.Element.{offsets}
 use Rattle.morphology.specs.Refusals.{row5, row7}

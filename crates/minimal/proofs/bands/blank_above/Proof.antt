@@ -3,7 +3,6 @@ use mathlib.Core.Path.{_∙_, subst, sym}
 use Prim.Native.Nat.{_*_, _+_, _-_, _≤_, ℕ}
 use native.Mathlib.Nat.{zero-mul}
 use native.Mathlib.Omega.{arith}
-use borrow.Author.Needs.{needs}
 use denote.Ref.{now}
 use lib.ListN.{length}
 use Rattle.raster.proofs.RowLaws.{row-in}

@@ -1,8 +1,7 @@
 -- `minimal::bands::blank_under` meets its contract.
 use mathlib.Core.Path.{_∙_, _≡_, subst, sym}
-use Prim.Native.Nat.{_*_, _+_, _-_, _<_, _≤_, ℕ}
+use Prim.Native.Nat.{_*_, _+_, _-_, _≤_, ℕ}
 use native.Mathlib.Omega.{arith}
-use borrow.Author.Needs.{needs}
 use denote.Ref.{now}
 use lib.ListN.{length}
 use Rattle.raster.proofs.RowLaws.{row-in}

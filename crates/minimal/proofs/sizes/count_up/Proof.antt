@@ -1,11 +1,10 @@
 -- `minimal::sizes::count_up` meets its contract.
-use mathlib.Core.List.{List}
-use mathlib.Core.Path.{_∙_, _≡_, ap, subst, sym}
-use Prim.Native.Nat.{_*_, _-_, _≤_, ℕ}
+use mathlib.Core.Path.{_∙_, ap, sym}
+use Prim.Native.Nat.{_-_, _≤_, ℕ}
 use native.Mathlib.Omega.{arith}
 use borrow.Author.Needs.{needs}
 use denote.Ref.{now}
-use lib.ListN.{length, replicate}
+use lib.ListN.{replicate}
 use Rattle.morphology.specs.Element.{offsets}
 use Rattle.iteration.specs.Steps.{First, dilated}
 use Rattle.minimal.specs.Covers.{single}

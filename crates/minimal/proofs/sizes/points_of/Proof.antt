@@ -1,5 +1,5 @@
 -- `minimal::sizes::points_of` meets its contract.
-use mathlib.Core.Bool.{Bool, not}
+use mathlib.Core.Bool.{not}
 use mathlib.Core.Path.{_∙_, _≡_, ap, ap₂, refl, sym}
 use Prim.Native.Nat.{_+_, _-_, _≤_, ℕ}
 use native.Mathlib.Omega.{arith}
@@ -8,7 +8,7 @@ use lib.Dec.{eqb}
 use lib.ListN.{getD, length, take}
 use lib.Seq.{length-take-le, take-length}
 use Rattle.morphology.specs.Lists.{countOf}
-use Rattle.morphology.proofs.CountLaws.{count-le, count-take, digit, digit-le}
+use Rattle.morphology.proofs.CountLaws.{count-le, count-take, digit-le}
 use Rattle.minimal.proofs.sizes.points_of.Statement.{statement}
 use Rattle.minimal.proofs.sizes.points_of.Tie as tie
 

@@ -1,5 +1,4 @@
 -- `minimal::walks::walk_size` meets its contract.
-use mathlib.Core.List.{List}
 use mathlib.Core.Path.{_∙_, _≡_, ap, refl, sym}
 use Prim.Native.Nat.{_*_, _+_, _-_, _<_, _≤_, ℕ}
 use native.Mathlib.Omega.{arith}
