@@ -7,6 +7,7 @@ ghost use lib.ListN.{length};
 ghost use Rattle.raster.specs.Limits.{maxFrame, maxStride};
 ghost use Rattle.raster.specs.Rows.{rowBit, readBit, Pixelwise, RowJoined};
 ghost use Rattle.neighbours.specs.Neighbours.{NearRows, Moved, turned, isWithin, columnOf, neighbours, source, sourceBit, stripBit, PlaneIs, PlaneJoined};
+ghost use Rattle.neighbours.specs.Strips.{Joining, Loading, Shift, Stride};
 
 // Bytes of the rows that are joined at a time, and of these with the two rows above them and the two below.
 const STRIP: usize = 2048;
@@ -14,7 +15,7 @@ const STRIP: usize = 2048;
 const NEAR: usize = STRIP + 4 * raster::MAX_STRIDE;
 
 // The offset k - 2 as k; in a dilation its negative.
-fn turn(dilating: bool, k: usize) -> usize
+fn reflect(dilating: bool, k: usize) -> usize
     requires { ⌜ k < 5 ⌝ }
     ensures { λ r. ⌜ r ≡ turned dilating k ⌝ }
 {
@@ -45,7 +46,7 @@ fn lesser(a: usize, b: usize) -> usize
 
 // The rows y - 2 to y + n + 2 of a plane, background where there is no such row, into buf from its byte 1 on.
 fn load_near(plane: &[u8], r: usize, h: usize, y: usize, n: usize, buf: &mut [u8])
-    requires { ⌜ (h * r ≤ length (now plane)) × (r ≤ maxStride) × (h ≤ maxFrame) × (y + n ≤ h) × ((n + 4) * r + 2 ≤ length (now buf)) ⌝ }
+    requires { ⌜ Loading (now plane) r h y n (now buf) ⌝ }
     ensures { λ _. ⌜ NearRows (now (plane .entry)) r h y n (now (buf .exit)) ⌝ }
 {
     raster::fill(buf, 0);
@@ -68,8 +69,7 @@ fn load_source(
     n: usize,
     buf: &mut [u8],
 )
-    requires { ⌜ (h * r ≤ length (source own (now image) (now work))) × (r ≤ maxStride) × (h ≤ maxFrame) × (y + n ≤ h)
-        × ((n + 4) * r + 2 ≤ length (now buf)) ⌝ }
+    requires { ⌜ Loading (source own (now image) (now work)) r h y n (now buf) ⌝ }
     ensures { λ _. ⌜ NearRows (source own (now (image .entry)) (now (work .entry))) r h y n (now (buf .exit)) ⌝ }
 {
     if own {
@@ -81,7 +81,7 @@ fn load_source(
 
 // Each pixel x of dst becomes pixel x + s of buf: a loop for each s, so that it shifts by constants.
 fn move_bytes(buf: &[u8], s: u32, dst: &mut [u8])
-    requires { ⌜ (6 ≤ s) × (s ≤ 10) × (length (now dst) + 2 ≤ length (now buf)) ⌝ }
+    requires { ⌜ Shift s × (length (now dst) + 2 ≤ length (now buf)) ⌝ }
     ensures { λ _. ⌜ Pixelwise (now (dst .entry)) (now (dst .exit)) (λ x b. rowBit (now (buf .entry)) (x + s)) ⌝ }
 {
     if s == 6 {
@@ -99,7 +99,7 @@ fn move_bytes(buf: &[u8], s: u32, dst: &mut [u8])
 
 // Clears the pixels x of a row that a move by s takes from beyond its ends: those without 8 ≤ x + s < 8 r + 8.
 fn clear_end(row: &mut [u8], s: u32)
-    requires { ⌜ (6 ≤ s) × (s ≤ 10) × (0 < length (now row)) × (length (now row) ≤ maxStride) ⌝ }
+    requires { ⌜ Shift s × Stride (length (now row)) ⌝ }
     ensures { λ _. ⌜ Pixelwise (now (row .entry)) (now (row .exit)) (λ x b. b && isWithin (length (now (row .entry))) (x + s)) ⌝ }
 {
     if s < 8 {
@@ -111,7 +111,7 @@ fn clear_end(row: &mut [u8], s: u32)
 
 // The same for m rows of r bytes.
 fn clear_ends(strip: &mut [u8], s: u32, r: usize, m: usize)
-    requires { ⌜ (6 ≤ s) × (s ≤ 10) × (0 < r) × (r ≤ maxStride) × (m * r ≤ length (now strip)) ⌝ }
+    requires { ⌜ Shift s × Stride r × (m * r ≤ length (now strip)) ⌝ }
     ensures { λ _. ⌜ PlaneIs 0 r m (now (strip .entry)) (now (strip .exit)) (λ y x. rowBit (now (strip .entry)) (8 * (0 + y * r) + x) && isWithin r (x + s)) ⌝ }
 {
     let mut y: usize = 0;
@@ -124,7 +124,7 @@ fn clear_ends(strip: &mut [u8], s: u32, r: usize, m: usize)
 
 // The m rows in buf moved: pixel x of each becomes what it has at x + s - 8, background beyond its ends.
 fn move_strip(buf: &[u8], s: u32, r: usize, m: usize, strip: &mut [u8])
-    requires { ⌜ (6 ≤ s) × (s ≤ 10) × (0 < r) × (r ≤ maxStride) × (m * r + 2 ≤ length (now buf)) × (m * r ≤ length (now strip)) ⌝ }
+    requires { ⌜ Shift s × Stride r × (m * r + 2 ≤ length (now buf)) × (m * r ≤ length (now strip)) ⌝ }
     ensures { λ _. ⌜ Moved (now (buf .entry)) s r m (now (strip .exit)) ⌝ }
 {
     move_bytes(buf, s, &mut strip[..m * r]);
@@ -146,13 +146,14 @@ fn join_if(dilating: bool, inverse: bool, digit: u32, src: &[u8], dst: &mut [u8]
 // Joins a column of the element, its bits 0, 5, 10, 15 and 20, of the moved rows in strip to dst.
 fn join_column(dilating: bool, inverse: bool, strip: &[u8], r: usize, column: u32, dst: &mut [u8])
     requires { ⌜ (r ≤ maxStride) × (4 * r + length (now dst) ≤ length (now strip)) ⌝ }
-    ensures { λ _. ⌜ RowJoined dilating (now (dst .entry)) (now (dst .exit)) (λ x. columnOf dilating column (λ k. readBit inverse (now (strip .entry)) (8 * (k * r) + x))) ⌝ }
+    ensures { λ _. ⌜ RowJoined dilating (now (dst .entry)) (now (dst .exit))
+        (λ x. columnOf dilating column (λ k. readBit inverse (now (strip .entry)) (8 * (k * r) + x))) ⌝ }
 {
     let n = dst.len();
     let mut rest = column;
     let mut k: usize = 0;
     while k < 5 {
-        let at = turn(dilating, k) * r;
+        let at = reflect(dilating, k) * r;
         join_if(dilating, inverse, rest % 2, &strip[at..at + n], dst);
         rest = rest / 32;
         k = k + 1;
@@ -171,16 +172,16 @@ fn join_moved(
     column: u32,
     dst: &mut [u8],
 )
-    requires { ⌜ (j < 5) × (0 < r) × (r ≤ maxStride) × ((n + 4) * r + 2 ≤ length (now buf))
-        × ((n + 4) * r ≤ length (now strip)) × (length (now dst) ≡ n * r) ⌝ }
-    ensures { λ _. ⌜ PlaneJoined dilating 0 r n (now (dst .entry)) (now (dst .exit)) (λ y x. columnOf dilating column (λ k. stripBit inverse (now (buf .entry)) r (x + (turned dilating j + 6)) (y + k))) ⌝ }
+    requires { ⌜ (j < 5) × Joining r n (now buf) (now strip) (now dst) ⌝ }
+    ensures { λ _. ⌜ PlaneJoined dilating 0 r n (now (dst .entry)) (now (dst .exit))
+        (λ y x. columnOf dilating column (λ k. stripBit inverse (now (buf .entry)) r (x + (turned dilating j + 6)) (y + k))) ⌝ }
 {
     if column % 2 + column / 32 % 2 + column / 1024 % 2 + column / 32768 % 2 + column / 1048576 % 2
         == 0
     {
         return;
     }
-    move_strip(buf, turn(dilating, j) as u32 + 6, r, n + 4, strip);
+    move_strip(buf, reflect(dilating, j) as u32 + 6, r, n + 4, strip);
     join_column(dilating, inverse, &strip[..], r, column, dst);
 }
 
@@ -195,8 +196,9 @@ fn join_strip(
     element: u32,
     dst: &mut [u8],
 )
-    requires { ⌜ (0 < r) × (r ≤ maxStride) × ((n + 4) * r + 2 ≤ length (now buf)) × ((n + 4) * r ≤ length (now strip)) × (length (now dst) ≡ n * r) ⌝ }
-    ensures { λ _. ⌜ PlaneJoined dilating 0 r n (now (dst .entry)) (now (dst .exit)) (λ y x. neighbours dilating element (stripBit inverse (now (buf .entry)) r) x y) ⌝ }
+    requires { ⌜ Joining r n (now buf) (now strip) (now dst) ⌝ }
+    ensures { λ _. ⌜ PlaneJoined dilating 0 r n (now (dst .entry)) (now (dst .exit))
+        (λ y x. neighbours dilating element (stripBit inverse (now (buf .entry)) r) x y) ⌝ }
 {
     let mut rest = element;
     let mut j: usize = 0;
@@ -223,9 +225,10 @@ fn join_near(
     buf: &mut [u8],
     strip: &mut [u8],
 )
-    requires { ⌜ (h * r ≤ length (source own (now image) (now work))) × (p + h * r ≤ length (now work)) × (0 < r) × (r ≤ maxStride) × (h ≤ maxFrame)
-        × (y + n ≤ h) × ((n + 4) * r + 2 ≤ length (now buf)) × ((n + 4) * r ≤ length (now strip)) ⌝ }
-    ensures { λ _. ⌜ PlaneJoined dilating (p + y * r) r n (now (work .entry)) (now (work .exit)) (λ Y x. neighbours dilating element (sourceBit inverse (source own (now (image .entry)) (now (work .entry))) r h) x (y + Y)) ⌝ }
+    requires { ⌜ Loading (source own (now image) (now work)) r h y n (now buf) × (0 < r) × (p + h * r ≤ length (now work))
+        × ((n + 4) * r ≤ length (now strip)) ⌝ }
+    ensures { λ _. ⌜ PlaneJoined dilating (p + y * r) r n (now (work .entry)) (now (work .exit))
+        (λ Y x. neighbours dilating element (sourceBit inverse (source own (now (image .entry)) (now (work .entry))) r h) x (y + Y)) ⌝ }
 {
     load_source(own, image, &work[..], r, h, y, n, buf);
     let d = p + y * r;
@@ -254,7 +257,8 @@ pub fn join_plane(
     element: u32,
 )
     requires { ⌜ (h * r ≤ cond own p (length (now image))) × (p + h * r ≤ length (now work)) × (0 < r) × (r ≤ maxStride) × (h ≤ maxFrame) ⌝ }
-    ensures { λ _. ⌜ PlaneJoined dilating p r h (now (work .entry)) (now (work .exit)) (λ y x. neighbours dilating element (sourceBit inverse (source own (now (image .entry)) (now (work .entry))) r h) x y) ⌝ }
+    ensures { λ _. ⌜ PlaneJoined dilating p r h (now (work .entry)) (now (work .exit))
+        (λ y x. neighbours dilating element (sourceBit inverse (source own (now (image .entry)) (now (work .entry))) r h) x y) ⌝ }
 {
     let mut buf = [0u8; NEAR + 2];
     let mut strip = [0u8; NEAR];
@@ -284,7 +288,8 @@ pub fn join_plane(
 // Joins what a mask asks of an image to each row of out: its element of the foreground, or, inverse, of the background.
 pub fn join_mask(inverse: bool, image: &[u8], out: &mut [u8], r: usize, h: usize, element: u32)
     requires { ⌜ (h * r ≤ length (now image)) × (h * r ≤ length (now out)) × (0 < r) × (r ≤ maxStride) × (h ≤ maxFrame) ⌝ }
-    ensures { λ _. ⌜ PlaneJoined false 0 r h (now (out .entry)) (now (out .exit)) (λ y x. neighbours false element (sourceBit inverse (now (image .entry)) r h) x y) ⌝ }
+    ensures { λ _. ⌜ PlaneJoined false 0 r h (now (out .entry)) (now (out .exit))
+        (λ y x. neighbours false element (sourceBit inverse (now (image .entry)) r h) x y) ⌝ }
 {
     join_plane(false, inverse, false, image, out, 0, r, h, element);
 }

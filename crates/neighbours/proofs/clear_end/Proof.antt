@@ -1,4 +1,4 @@
--- `neighbours::clear_end` meets its contract.
+-- `neighbours::clear_end` meets its contract. A shift below 8 clears at the row's start, any other at its end.
 use denote.Ref.{now}
 use native.Mathlib.Omega.{arith}
 use mathlib.Core.Path.{refl}
@@ -18,7 +18,11 @@ same-length : tie.Need-same-length
 same-length c = search needs
 
 returns : tie.Need-returns
-returns c = let a = c .before .before .before .before .before .before .args in within-start (length (now (a .row))) (a .s) _ (now (a .row)) _ refl refl (c .before .before .before .before .if1 .taken) (c .before .before .clear-start .ensures)
+returns c =
+    let at-clear-start = c .before .before in
+    let then1 = at-clear-start .before .before in
+    let s = then1 .before .before in
+    let a = s .args in within-start (length (now (a .row))) (a .s) _ (now (a .row)) _ refl refl (then1 .if1 .taken) (at-clear-start .clear-start .ensures)
 
 mul-clear-padding : tie.Need-mul-clear-padding
 mul-clear-padding c = search needs
@@ -37,9 +41,11 @@ same-length-2 c = search needs
 
 returns-2 : tie.Need-returns-2
 returns-2 c =
-    let s = c .before .before .before .before .before .before in
+    let at-clear-padding = c .before .before in
+    let else1 = at-clear-padding .before .before in
+    let s = else1 .before .before in
     let a = s .args in
-    within-end (length (now (a .row))) (a .s) _ (now (a .row)) _ refl (omega (arith, s .pre .1, s .pre .2)) (omega (arith, c .before .before .before .before .if1 .left)) (c .before .before .clear-padding .ensures)
+    within-end (length (now (a .row))) (a .s) _ (now (a .row)) _ refl (omega (arith, s .pre .0 .most, s .pre .1 .some)) (omega (arith, else1 .if1 .left)) (at-clear-padding .clear-padding .ensures)
 
 pub clear-end-spec : {M : Type 1} → statement M
 clear-end-spec =

@@ -1,4 +1,4 @@
--- `neighbours::clear_ends` meets its contract.
+-- `neighbours::clear_ends` meets its contract. The invariant: y rows are cleared. The measure is what is left of the m rows.
 use denote.Ref.{now}
 use native.Mathlib.Omega.{arith}
 use mathlib.Core.Bool.{_&&_}
@@ -20,20 +20,25 @@ Inv-loop strip₀ s r m y₀ strip y = (y ≤ m) × PlaneIs 0 r y strip₀ strip
 abbrev μ-loop : tie.MeasureT-loop
 μ-loop strip₀ s r m y₀ strip y = m - y
 
+abbrev start : tie.In-loop Inv-loop μ-loop → tie.Start Inv-loop μ-loop
+start c = c .before .before .before
+
 loop-holds : tie.Need-loop-holds Inv-loop μ-loop
 loop-holds c = let a = c .before .args in (omega arith, rows-none 0 (a .r) (now (a .strip)) (λ y x b. b && isWithin (a .r) (x + a .s)))
 
 mul-d : tie.Need-mul-d Inv-loop μ-loop
 mul-d c =
-    let s = c .before .before .before in
+    let at-loop = c .before in
+    let s = start c in
     let a = s .args in
-    omega (arith, row-in (c .before .loop .y) (a .m) (a .r) (length (now (a .strip))) (c .loop-test .taken) (s .pre .4), c .before .loop .inv .1 .size)
+    omega (arith, row-in (at-loop .loop .y) (a .m) (a .r) (length (now (a .strip))) (c .loop-test .taken) (s .pre .2), at-loop .loop .inv .1 .size)
 
 add-clear-end : tie.Need-add-clear-end Inv-loop μ-loop
 add-clear-end c =
-    let s = c .before .before .before in
+    let at-loop = c .before in
+    let s = start c in
     let a = s .args in
-    omega (arith, row-in (c .before .loop .y) (a .m) (a .r) (length (now (a .strip))) (c .loop-test .taken) (s .pre .4), c .before .loop .inv .1 .size)
+    omega (arith, row-in (at-loop .loop .y) (a .m) (a .r) (length (now (a .strip))) (c .loop-test .taken) (s .pre .2), at-loop .loop .inv .1 .size)
 
 sub-clear-end : tie.Need-sub-clear-end Inv-loop μ-loop
 sub-clear-end c = omega arith
@@ -43,19 +48,21 @@ part-clear-end-start c = omega arith
 
 part-clear-end-end : tie.Need-part-clear-end-end Inv-loop μ-loop
 part-clear-end-end c =
-    let s = c .before .before .before in
+    let at-loop = c .before in
+    let s = start c in
     let a = s .args in
-    omega (arith, row-in (c .before .loop .y) (a .m) (a .r) (length (now (a .strip))) (c .loop-test .taken) (s .pre .4), c .before .loop .inv .1 .size)
+    omega (arith, row-in (at-loop .loop .y) (a .m) (a .r) (length (now (a .strip))) (c .loop-test .taken) (s .pre .2), at-loop .loop .inv .1 .size)
 
 clear-end-requires : tie.Need-clear-end-requires Inv-loop μ-loop
 clear-end-requires c κs =
-    let s = c .before .before .before .before in
+    let at-loop = c .before .before in
+    let s = start (c .before) in
     let a = s .args in
-    let l = c .before .before .loop in
+    let l = at-loop .loop in
     let d = l .y * a .r in
-    let i = row-in (l .y) (a .m) (a .r) (length (now (a .strip))) (c .before .loop-test .taken) (s .pre .4) in
+    let i = row-in (l .y) (a .m) (a .r) (length (now (a .strip))) (c .before .loop-test .taken) (s .pre .2) in
     let m = length-take-le (d + a .r - d) (drop d (l .strip)) (omega (arith, length-drop d (l .strip), i, l .inv .1 .size)) in
-    (s .pre .0, s .pre .1, omega (arith, m, s .pre .2), omega (arith, m, s .pre .3))
+    (s .pre .0, record { some = omega (arith, m, s .pre .1 .some); most = omega (arith, m, s .pre .1 .most) })
 
 add-y : tie.Need-add-y Inv-loop μ-loop
 add-y c = omega arith
@@ -65,13 +72,16 @@ loop-less c = omega arith
 
 loop-again : tie.Need-loop-again Inv-loop μ-loop
 loop-again c =
-    let s = c .before .before .before .before .before .before .before in
+    let at-clear-end = c .before .before in
+    let in-loop = at-clear-end .before .before in
+    let at-loop = in-loop .before in
+    let s = start in-loop in
     let a = s .args in
-    let l = c .before .before .before .before .before .loop in
+    let l = at-loop .loop in
     let d = l .y * a .r in
-    let i = row-in (l .y) (a .m) (a .r) (length (now (a .strip))) (c .before .before .before .before .loop-test .taken) (s .pre .4) in (
+    let i = row-in (l .y) (a .m) (a .r) (length (now (a .strip))) (in-loop .loop-test .taken) (s .pre .2) in (
       omega arith,
-      rows-cleared (a .r) (l .y) (a .s) (d + a .r - d) (now (a .strip)) (l .strip) _ (omega arith) (omega (arith, i, l .inv .1 .size)) (l .inv .1) (c .before .before .clear-end .ensures),
+      rows-cleared (a .r) (l .y) (a .s) (d + a .r - d) (now (a .strip)) (l .strip) _ (omega arith) (omega (arith, i, l .inv .1 .size)) (l .inv .1) (at-clear-end .clear-end .ensures),
     )
 
 same-length : tie.Need-same-length Inv-loop μ-loop
@@ -79,7 +89,8 @@ same-length c = c .before .loop .inv .1 .size
 
 returns : tie.Need-returns Inv-loop μ-loop
 returns c =
-    let a = c .before .before .before .args in
+    let s′ = c .before .before .before in
+    let a = s′ .args in
     let l = c .before .loop in
     let e : l .y ≡ a .m = omega arith in
     subst (λ (n : ℕ). PlaneIs 0 (a .r) n (now (a .strip)) (l .strip) (λ y x. rowBit (now (a .strip)) (8 * (0 + y * a .r) + x) && isWithin (a .r) (x + a .s))) e (l .inv .1)

@@ -18,25 +18,32 @@ Inv-loop dilating inverse strip r column dst₀ n rest₀ k₀ dst rest k = (k �
 abbrev μ-loop : tie.MeasureT-loop
 μ-loop dilating inverse strip r column dst₀ n rest₀ k₀ dst rest k = 5 - k
 
-loop-holds : tie.Need-loop-holds Inv-loop μ-loop
-loop-holds c = let a = c .before .before .args in (omega arith, omega arith, column-none (a .dilating) (a .column) (λ k x. readBit (a .inverse) (now (a .strip)) (8 * (k * a .r) + x)) (now (a .dst)))
+abbrev start : tie.At-loop Inv-loop μ-loop → tie.Start Inv-loop μ-loop
+start c = c .before .before .before
 
-turn-requires : tie.Need-turn-requires Inv-loop μ-loop
-turn-requires c κs = omega arith
+loop-holds : tie.Need-loop-holds Inv-loop μ-loop
+loop-holds c =
+    let s = c .before .before in
+    let a = s .args in (omega arith, omega arith, column-none (a .dilating) (a .column) (λ k x. readBit (a .inverse) (now (a .strip)) (8 * (k * a .r) + x)) (now (a .dst)))
+
+reflect-requires : tie.Need-reflect-requires Inv-loop μ-loop
+reflect-requires c κs = omega arith
 
 mul-at : tie.Need-mul-at Inv-loop μ-loop
 mul-at c =
-    let s = c .before .before .before .before .before in
+    let at-loop = c .before .before in
+    let s = start at-loop in
     let a = s .args in
-    let l = c .before .before .loop in
-    omega (arith, column-room (a .dilating) (l .k) (a .r) (c .turn .result) (c .before .loop-test .taken) (c .turn .ensures), s .pre .0, s .pre .1, l .inv .2 .size)
+    let l = at-loop .loop in
+    omega (arith, column-room (a .dilating) (l .k) (a .r) (c .reflect .result) (c .before .loop-test .taken) (c .reflect .ensures), s .pre .0, s .pre .1, l .inv .2 .size)
 
 add-join-if : tie.Need-add-join-if Inv-loop μ-loop
 add-join-if c =
-    let s = c .before .before .before .before .before in
+    let at-loop = c .before .before in
+    let s = start at-loop in
     let a = s .args in
-    let l = c .before .before .loop in
-    omega (arith, column-room (a .dilating) (l .k) (a .r) (c .turn .result) (c .before .loop-test .taken) (c .turn .ensures), s .pre .0, s .pre .1, l .inv .2 .size)
+    let l = at-loop .loop in
+    omega (arith, column-room (a .dilating) (l .k) (a .r) (c .reflect .result) (c .before .loop-test .taken) (c .reflect .ensures), s .pre .0, s .pre .1, l .inv .2 .size)
 
 sub-join-if : tie.Need-sub-join-if Inv-loop μ-loop
 sub-join-if c = omega arith
@@ -46,19 +53,23 @@ part-join-if-start c = omega arith
 
 part-join-if-end : tie.Need-part-join-if-end Inv-loop μ-loop
 part-join-if-end c =
-    let s = c .before .before .before .before .before in
+    let at-loop = c .before .before in
+    let s = start at-loop in
     let a = s .args in
-    let l = c .before .before .loop in
-    omega (arith, column-room (a .dilating) (l .k) (a .r) (c .turn .result) (c .before .loop-test .taken) (c .turn .ensures), s .pre .0, s .pre .1, l .inv .2 .size)
+    let l = at-loop .loop in
+    omega (arith, column-room (a .dilating) (l .k) (a .r) (c .reflect .result) (c .before .loop-test .taken) (c .reflect .ensures), s .pre .0, s .pre .1, l .inv .2 .size)
 
 join-if-requires : tie.Need-join-if-requires Inv-loop μ-loop
 join-if-requires c κs =
-    let s = c .before .before .before .before .before .before .before in
+    let at-reflect = c .before .before in
+    let in-loop = at-reflect .before in
+    let at-loop = in-loop .before in
+    let s = start at-loop in
     let a = s .args in
-    let l = c .before .before .before .before .loop in
-    let at = c .before .before .turn .result * a .r in
+    let l = at-loop .loop in
+    let at = at-reflect .reflect .result * a .r in
     let n = length (now (a .dst)) in
-    let q = column-room (a .dilating) (l .k) (a .r) (c .before .before .turn .result) (c .before .before .before .loop-test .taken) (c .before .before .turn .ensures) in
+    let q = column-room (a .dilating) (l .k) (a .r) (at-reflect .reflect .result) (in-loop .loop-test .taken) (at-reflect .reflect .ensures) in
     let m = length-take-le (at + n - at) (drop at (now (a .strip))) (omega (arith, length-drop at (now (a .strip)), q, s .pre .1)) in
     omega (arith, m, l .inv .2 .size)
 
@@ -70,15 +81,18 @@ loop-less c = omega arith
 
 loop-again : tie.Need-loop-again Inv-loop μ-loop
 loop-again c =
-    let s = c .before .before .before .before .before .before .before .before .before .before in
+    let at-join-if = c .before .before in
+    let at-reflect = at-join-if .before .before .before in
+    let at-loop = at-reflect .before .before in
+    let s = start at-loop in
     let a = s .args in
-    let l = c .before .before .before .before .before .before .before .loop in
-    let at = c .before .before .before .before .before .turn .result * a .r in
+    let l = at-loop .loop in
+    let at = at-reflect .reflect .result * a .r in
     let n = length (now (a .dst)) in
     let e : l .k * 5 + 5 ≡ (l .k + 1) * 5 = omega arith in (
       omega arith,
       ap (λ (n : ℕ). n / 32) (l .inv .1) ∙ shr-shr (a .column) (l .k * 5) 5 ∙ ap (λ (n : ℕ). a .column / 2 ^ n) e,
-      column-more (a .dilating) (a .inverse) (a .column) (l .rest) (l .k) (a .r) at (at + n - at) (now (a .strip)) (now (a .dst)) (l .dst) _ (l .inv .1) (ap (λ (k : ℕ). k * a .r) (c .before .before .before .before .before .turn .ensures)) (omega arith) (l .inv .2) (c .before .before .join-if .ensures),
+      column-more (a .dilating) (a .inverse) (a .column) (l .rest) (l .k) (a .r) at (at + n - at) (now (a .strip)) (now (a .dst)) (l .dst) _ (l .inv .1) (ap (λ (k : ℕ). k * a .r) (at-reflect .reflect .ensures)) (omega arith) (l .inv .2) (at-join-if .join-if .ensures),
     )
 
 same-length : tie.Need-same-length Inv-loop μ-loop
@@ -86,7 +100,8 @@ same-length c = c .before .loop .inv .2 .size
 
 returns : tie.Need-returns Inv-loop μ-loop
 returns c =
-    let a = c .before .before .before .before .args in
+    let s = start (c .before) in
+    let a = s .args in
     let l = c .before .loop in
     column-done (a .dilating) (a .column) (l .k) (λ k x. readBit (a .inverse) (now (a .strip)) (8 * (k * a .r) + x)) (now (a .dst)) (l .dst) (omega arith) (l .inv .2)
 
@@ -97,7 +112,7 @@ join-column-spec =
     Inv-loop
     μ-loop
     loop-holds
-    turn-requires
+    reflect-requires
     mul-at
     add-join-if
     sub-join-if

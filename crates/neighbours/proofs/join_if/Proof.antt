@@ -13,10 +13,16 @@ same-length : tie.Need-same-length
 same-length c = search needs
 
 returns : tie.Need-returns
-returns c = let a = c .before .before .before .before .before .before .before .args in row-if (a .dilating) (now (a .dst)) _ (readBit (a .inverse) (now (a .src))) (a .digit) (c .before .before .before .before .if1 .taken) (c .before .before .join-rows .ensures)
+returns c =
+    let at-join-rows = c .before .before in
+    let then1 = at-join-rows .before .before in
+    let s = then1 .before .before .before in
+    let a = s .args in row-if (a .dilating) (now (a .dst)) _ (readBit (a .inverse) (now (a .src))) (a .digit) (then1 .if1 .taken) (at-join-rows .join-rows .ensures)
 
 returns-2 : tie.Need-returns-2
-returns-2 c = let a = c .before .before .before .args in row-unless (a .dilating) (now (a .dst)) (readBit (a .inverse) (now (a .src))) (a .digit) (c .if1 .left)
+returns-2 c =
+    let s = c .before .before .before in
+    let a = s .args in row-unless (a .dilating) (now (a .dst)) (readBit (a .inverse) (now (a .src))) (a .digit) (c .if1 .left)
 
 pub join-if-spec : {M : Type 1} → statement M
 join-if-spec = tie.close (tie.spec join-rows-requires same-length returns returns-2)

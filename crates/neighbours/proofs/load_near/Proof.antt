@@ -1,13 +1,36 @@
--- `neighbours::load_near` meets its contract.
+-- `neighbours::load_near` meets its contract. With the three sizes known, the rows that are copied lie within the plane and within the buffer (`fits`); then the law of loaded rows.
 use denote.Ref.{now}
 use native.Mathlib.Omega.{arith}
 use mathlib.Core.Path.{ap}
-use Prim.Native.Nat.{_*_, _+_, _-_, ℕ}
+use Prim.Native.Nat.{_*_, _+_, _-_, _≤_, ℕ}
 use lib.ListN.{length}
 use Rattle.neighbours.proofs.StripLaws.{load-fits, near-loaded}
 use borrow.Author.Needs.{needs}
 use Rattle.neighbours.proofs.load_near.Statement.{statement}
 use Rattle.neighbours.proofs.load_near.Tie as tie
+
+-- where the sizes are known: blank rows of background, then rows of the plane, from its row `from` on
+abbrev start : tie.After-lesser → tie.Start
+start c = c .before .before .before .before .before .before .before .before .before
+
+abbrev blank : tie.After-lesser → ℕ
+blank c = c .before .before .less .result
+
+abbrev from : tie.After-lesser → ℕ
+from c = c .before .less2 .result
+
+abbrev rows : tie.After-lesser → ℕ
+rows c = c .lesser .result - from c
+
+fits : (c : tie.After-lesser)
+    → (from c * start c .args .r + rows c * start c .args .r ≤ length (now (start c .args .plane)))
+    × (blank c * start c .args .r + rows c * start c .args .r + 2 ≤ length (now (start c .args .buf)))
+fits c =
+    let s = start c in
+    let a = s .args in
+    let F = load-fits (a .r) (a .h) (a .y) (a .n) (from c) (rows c) (blank c) (s .pre .rows) (c .before .before .less .ensures) (c .before .less2 .ensures)
+        (ap (λ (m : ℕ). m - from c) (c .lesser .ensures)) in
+    (omega (arith, F .1, s .pre .plane-rows), omega (arith, F .0, s .pre .near))
 
 fill-requires : tie.Need-fill-requires
 fill-requires c κs = search needs
@@ -31,39 +54,19 @@ sub-rows : tie.Need-sub-rows
 sub-rows c = search needs
 
 mul-at : tie.Need-mul-at
-mul-at c =
-    let s = c .before .before .before .before .before .before .before .before .before in
-    let a = s .args in
-    let F = load-fits (a .r) (a .h) (a .y) (a .n) (c .before .less2 .result) (c .lesser .result - c .before .less2 .result) (c .before .before .less .result) (s .pre .3) (c .before .before .less .ensures) (c .before .less2 .ensures) (ap (λ (m : ℕ). m - c .before .less2 .result) (c .lesser .ensures)) in
-    omega (arith, F .0, F .1, s .pre .0, s .pre .4)
+mul-at c = omega (arith, fits c .0, fits c .1)
 
 add-at : tie.Need-add-at
-add-at c =
-    let s = c .before .before .before .before .before .before .before .before .before in
-    let a = s .args in
-    let F = load-fits (a .r) (a .h) (a .y) (a .n) (c .before .less2 .result) (c .lesser .result - c .before .less2 .result) (c .before .before .less .result) (s .pre .3) (c .before .before .less .ensures) (c .before .less2 .ensures) (ap (λ (m : ℕ). m - c .before .less2 .result) (c .lesser .ensures)) in
-    omega (arith, F .0, F .1, s .pre .0, s .pre .4)
+add-at c = omega (arith, fits c .0, fits c .1)
 
 mul-a : tie.Need-mul-a
-mul-a c =
-    let s = c .before .before .before .before .before .before .before .before .before in
-    let a = s .args in
-    let F = load-fits (a .r) (a .h) (a .y) (a .n) (c .before .less2 .result) (c .lesser .result - c .before .less2 .result) (c .before .before .less .result) (s .pre .3) (c .before .before .less .ensures) (c .before .less2 .ensures) (ap (λ (m : ℕ). m - c .before .less2 .result) (c .lesser .ensures)) in
-    omega (arith, F .0, F .1, s .pre .0, s .pre .4)
+mul-a c = omega (arith, fits c .0, fits c .1)
 
 mul-copy : tie.Need-mul-copy
-mul-copy c =
-    let s = c .before .before .before .before .before .before .before .before .before in
-    let a = s .args in
-    let F = load-fits (a .r) (a .h) (a .y) (a .n) (c .before .less2 .result) (c .lesser .result - c .before .less2 .result) (c .before .before .less .result) (s .pre .3) (c .before .before .less .ensures) (c .before .less2 .ensures) (ap (λ (m : ℕ). m - c .before .less2 .result) (c .lesser .ensures)) in
-    omega (arith, F .0, F .1, s .pre .0, s .pre .4)
+mul-copy c = omega (arith, fits c .0, fits c .1)
 
 add-copy : tie.Need-add-copy
-add-copy c =
-    let s = c .before .before .before .before .before .before .before .before .before in
-    let a = s .args in
-    let F = load-fits (a .r) (a .h) (a .y) (a .n) (c .before .less2 .result) (c .lesser .result - c .before .less2 .result) (c .before .before .less .result) (s .pre .3) (c .before .before .less .ensures) (c .before .less2 .ensures) (ap (λ (m : ℕ). m - c .before .less2 .result) (c .lesser .ensures)) in
-    omega (arith, F .0, F .1, s .pre .0, s .pre .4)
+add-copy c = omega (arith, fits c .0, fits c .1)
 
 sub-copy : tie.Need-sub-copy
 sub-copy c = search needs
@@ -72,25 +75,13 @@ part-copy-start : tie.Need-part-copy-start
 part-copy-start c = search needs
 
 part-copy-end : tie.Need-part-copy-end
-part-copy-end c =
-    let s = c .before .before .before .before .before .before .before .before .before in
-    let a = s .args in
-    let F = load-fits (a .r) (a .h) (a .y) (a .n) (c .before .less2 .result) (c .lesser .result - c .before .less2 .result) (c .before .before .less .result) (s .pre .3) (c .before .before .less .ensures) (c .before .less2 .ensures) (ap (λ (m : ℕ). m - c .before .less2 .result) (c .lesser .ensures)) in
-    omega (arith, F .0, F .1, s .pre .0, s .pre .4)
+part-copy-end c = omega (arith, fits c .0, fits c .1)
 
 mul-copy-2 : tie.Need-mul-copy-2
-mul-copy-2 c =
-    let s = c .before .before .before .before .before .before .before .before .before .before in
-    let a = s .args in
-    let F = load-fits (a .r) (a .h) (a .y) (a .n) (c .before .before .less2 .result) (c .before .lesser .result - c .before .before .less2 .result) (c .before .before .before .less .result) (s .pre .3) (c .before .before .before .less .ensures) (c .before .before .less2 .ensures) (ap (λ (m : ℕ). m - c .before .before .less2 .result) (c .before .lesser .ensures)) in
-    omega (arith, F .0, F .1, s .pre .0, s .pre .4)
+mul-copy-2 c = omega (arith, fits (c .before) .0, fits (c .before) .1)
 
 add-copy-2 : tie.Need-add-copy-2
-add-copy-2 c =
-    let s = c .before .before .before .before .before .before .before .before .before .before in
-    let a = s .args in
-    let F = load-fits (a .r) (a .h) (a .y) (a .n) (c .before .before .less2 .result) (c .before .lesser .result - c .before .before .less2 .result) (c .before .before .before .less .result) (s .pre .3) (c .before .before .before .less .ensures) (c .before .before .less2 .ensures) (ap (λ (m : ℕ). m - c .before .before .less2 .result) (c .before .lesser .ensures)) in
-    omega (arith, F .0, F .1, s .pre .0, s .pre .4)
+add-copy-2 c = omega (arith, fits (c .before) .0, fits (c .before) .1)
 
 sub-copy-2 : tie.Need-sub-copy-2
 sub-copy-2 c = search needs
@@ -99,11 +90,7 @@ part-copy-start-2 : tie.Need-part-copy-start-2
 part-copy-start-2 c = search needs
 
 part-copy-end-2 : tie.Need-part-copy-end-2
-part-copy-end-2 c =
-    let s = c .before .before .before .before .before .before .before .before .before .before in
-    let a = s .args in
-    let F = load-fits (a .r) (a .h) (a .y) (a .n) (c .before .before .less2 .result) (c .before .lesser .result - c .before .before .less2 .result) (c .before .before .before .less .result) (s .pre .3) (c .before .before .before .less .ensures) (c .before .before .less2 .ensures) (ap (λ (m : ℕ). m - c .before .before .less2 .result) (c .before .lesser .ensures)) in
-    omega (arith, F .0, F .1, s .pre .0, s .pre .4)
+part-copy-end-2 c = omega (arith, fits (c .before) .0, fits (c .before) .1)
 
 copy-requires : tie.Need-copy-requires
 copy-requires c κs = search needs
@@ -113,13 +100,17 @@ same-length c = search needs
 
 returns : tie.Need-returns
 returns c =
-    let s = c .before .before .before .before .before .before .before .before .before .before .before .before .before .before in
+    let at-copy = c .before .before in
+    let sized = at-copy .before .before .before in
+    let s = start sized in
     let a = s .args in
-    let F = load-fits (a .r) (a .h) (a .y) (a .n) (c .before .before .before .before .before .before .less2 .result) (c .before .before .before .before .before .lesser .result - c .before .before .before .before .before .before .less2 .result) (c .before .before .before .before .before .before .before .less .result) (s .pre .3) (c .before .before .before .before .before .before .before .less .ensures) (c .before .before .before .before .before .before .less2 .ensures) (ap (λ (m : ℕ). m - c .before .before .before .before .before .before .less2 .result) (c .before .before .before .before .before .lesser .ensures)) in
-    let at = c .before .before .before .before .before .before .before .less .result * a .r + 1 in
-    let b = c .before .before .before .before .before .before .less2 .result * a .r in
-    let n = (c .before .before .before .before .before .lesser .result - c .before .before .before .before .before .before .less2 .result) * a .r in
-    near-loaded (a .r) (a .h) (a .y) (a .n) (c .before .before .before .before .before .before .less2 .result) (c .before .before .before .before .before .lesser .result - c .before .before .before .before .before .before .less2 .result) (c .before .before .before .before .before .before .before .less .result) (at + n - at) (b + n - b) (length (now (a .buf))) (now (a .plane)) _ _ (s .pre .0) (s .pre .3) (s .pre .4) (c .before .before .before .before .before .before .before .less .ensures) (c .before .before .before .before .before .before .less2 .ensures) (ap (λ (m : ℕ). m - c .before .before .before .before .before .before .less2 .result) (c .before .before .before .before .before .lesser .ensures)) (omega arith) (omega arith) (c .before .before .before .before .before .before .before .before .before .before .fill .ensures) (c .before .before .copy .ensures)
+    let at = blank sized * a .r + 1 in
+    let b = from sized * a .r in
+    let n = rows sized * a .r in
+    near-loaded (a .r) (a .h) (a .y) (a .n) (from sized) (rows sized) (blank sized) (at + n - at) (b + n - b) (length (now (a .buf))) (now (a .plane)) _ _
+    (s .pre .plane-rows) (s .pre .rows) (s .pre .near) (sized .before .before .less .ensures) (sized .before .less2 .ensures)
+    (ap (λ (m : ℕ). m - from sized) (sized .lesser .ensures)) (omega arith) (omega arith)
+    (sized .before .before .before .before .before .fill .ensures) (at-copy .copy .ensures)
 
 pub load-near-spec : {M : Type 1} → statement M
 load-near-spec =
