@@ -45,7 +45,8 @@ returns-2 c =
     let else1 = at-clear-padding .before .before in
     let s = else1 .before .before in
     let a = s .args in
-    within-end (length (now (a .row))) (a .s) _ (now (a .row)) _ refl (omega (arith, s .pre .0 .most, s .pre .1 .some)) (omega (arith, else1 .if1 .left)) (at-clear-padding .clear-padding .ensures)
+    within-end (length (now (a .row))) (a .s) _ (now (a .row)) _ refl (omega (arith, s .pre .0 .most, s .pre .1 .some)) (omega (arith, else1 .if1 .left))
+    (at-clear-padding .clear-padding .ensures)
 
 pub clear-end-spec : {M : Type 1} → statement M
 clear-end-spec =

@@ -81,7 +81,8 @@ loop-again c =
     let d = l .y * a .r in
     let i = row-in (l .y) (a .m) (a .r) (length (now (a .strip))) (in-loop .loop-test .taken) (s .pre .2) in (
       omega arith,
-      rows-cleared (a .r) (l .y) (a .s) (d + a .r - d) (now (a .strip)) (l .strip) _ (omega arith) (omega (arith, i, l .inv .1 .size)) (l .inv .1) (at-clear-end .clear-end .ensures),
+      rows-cleared (a .r) (l .y) (a .s) (d + a .r - d) (now (a .strip)) (l .strip) _ (omega arith) (omega (arith, i, l .inv .1 .size)) (l .inv .1)
+          (at-clear-end .clear-end .ensures),
     )
 
 same-length : tie.Need-same-length Inv-loop μ-loop
@@ -93,7 +94,8 @@ returns c =
     let a = s′ .args in
     let l = c .before .loop in
     let e : l .y ≡ a .m = omega arith in
-    subst (λ (n : ℕ). PlaneIs 0 (a .r) n (now (a .strip)) (l .strip) (λ y x. rowBit (now (a .strip)) (8 * (0 + y * a .r) + x) && isWithin (a .r) (x + a .s))) e (l .inv .1)
+    subst (λ (n : ℕ). PlaneIs 0 (a .r) n (now (a .strip)) (l .strip) (λ y x. rowBit (now (a .strip)) (8 * (0 + y * a .r) + x) && isWithin (a .r) (x + a .s)))
+    e (l .inv .1)
 
 pub clear-ends-spec : {M : Type 1} → statement M
 clear-ends-spec =

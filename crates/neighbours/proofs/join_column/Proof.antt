@@ -13,7 +13,9 @@ use Rattle.neighbours.proofs.join_column.Statement.{statement}
 use Rattle.neighbours.proofs.join_column.Tie as tie
 
 abbrev Inv-loop : tie.InvT-loop
-Inv-loop dilating inverse strip r column dst₀ n rest₀ k₀ dst rest k = (k ≤ 5) × (rest ≡ column / 2 ^ (k * 5)) × RowJoined dilating dst₀ dst (λ x. joined dilating k (bitAsks dilating column (λ k. readBit inverse strip (8 * (k * r) + x))))
+Inv-loop dilating inverse strip r column dst₀ n rest₀ k₀ dst rest k =
+    (k ≤ 5) × (rest ≡ column / 2 ^ (k * 5)) × RowJoined dilating dst₀ dst
+    (λ x. joined dilating k (bitAsks dilating column (λ k. readBit inverse strip (8 * (k * r) + x))))
 
 abbrev μ-loop : tie.MeasureT-loop
 μ-loop dilating inverse strip r column dst₀ n rest₀ k₀ dst rest k = 5 - k
@@ -24,7 +26,8 @@ start c = c .before .before .before
 loop-holds : tie.Need-loop-holds Inv-loop μ-loop
 loop-holds c =
     let s = c .before .before in
-    let a = s .args in (omega arith, omega arith, column-none (a .dilating) (a .column) (λ k x. readBit (a .inverse) (now (a .strip)) (8 * (k * a .r) + x)) (now (a .dst)))
+    let a = s .args in
+    (omega arith, omega arith, column-none (a .dilating) (a .column) (λ k x. readBit (a .inverse) (now (a .strip)) (8 * (k * a .r) + x)) (now (a .dst)))
 
 reflect-requires : tie.Need-reflect-requires Inv-loop μ-loop
 reflect-requires c κs = omega arith
@@ -35,7 +38,8 @@ mul-at c =
     let s = start at-loop in
     let a = s .args in
     let l = at-loop .loop in
-    omega (arith, column-room (a .dilating) (l .k) (a .r) (c .reflect .result) (c .before .loop-test .taken) (c .reflect .ensures), s .pre .0, s .pre .1, l .inv .2 .size)
+    omega
+    (arith, column-room (a .dilating) (l .k) (a .r) (c .reflect .result) (c .before .loop-test .taken) (c .reflect .ensures), s .pre .0, s .pre .1, l .inv .2 .size)
 
 add-join-if : tie.Need-add-join-if Inv-loop μ-loop
 add-join-if c =
@@ -43,7 +47,8 @@ add-join-if c =
     let s = start at-loop in
     let a = s .args in
     let l = at-loop .loop in
-    omega (arith, column-room (a .dilating) (l .k) (a .r) (c .reflect .result) (c .before .loop-test .taken) (c .reflect .ensures), s .pre .0, s .pre .1, l .inv .2 .size)
+    omega
+    (arith, column-room (a .dilating) (l .k) (a .r) (c .reflect .result) (c .before .loop-test .taken) (c .reflect .ensures), s .pre .0, s .pre .1, l .inv .2 .size)
 
 sub-join-if : tie.Need-sub-join-if Inv-loop μ-loop
 sub-join-if c = omega arith
@@ -57,7 +62,8 @@ part-join-if-end c =
     let s = start at-loop in
     let a = s .args in
     let l = at-loop .loop in
-    omega (arith, column-room (a .dilating) (l .k) (a .r) (c .reflect .result) (c .before .loop-test .taken) (c .reflect .ensures), s .pre .0, s .pre .1, l .inv .2 .size)
+    omega
+    (arith, column-room (a .dilating) (l .k) (a .r) (c .reflect .result) (c .before .loop-test .taken) (c .reflect .ensures), s .pre .0, s .pre .1, l .inv .2 .size)
 
 join-if-requires : tie.Need-join-if-requires Inv-loop μ-loop
 join-if-requires c κs =
@@ -92,7 +98,8 @@ loop-again c =
     let e : l .k * 5 + 5 ≡ (l .k + 1) * 5 = omega arith in (
       omega arith,
       ap (λ (n : ℕ). n / 32) (l .inv .1) ∙ shr-shr (a .column) (l .k * 5) 5 ∙ ap (λ (n : ℕ). a .column / 2 ^ n) e,
-      column-more (a .dilating) (a .inverse) (a .column) (l .rest) (l .k) (a .r) at (at + n - at) (now (a .strip)) (now (a .dst)) (l .dst) _ (l .inv .1) (ap (λ (k : ℕ). k * a .r) (at-reflect .reflect .ensures)) (omega arith) (l .inv .2) (at-join-if .join-if .ensures),
+      column-more (a .dilating) (a .inverse) (a .column) (l .rest) (l .k) (a .r) at (at + n - at) (now (a .strip)) (now (a .dst)) (l .dst) _ (l .inv .1)
+          (ap (λ (k : ℕ). k * a .r) (at-reflect .reflect .ensures)) (omega arith) (l .inv .2) (at-join-if .join-if .ensures),
     )
 
 same-length : tie.Need-same-length Inv-loop μ-loop
@@ -103,7 +110,8 @@ returns c =
     let s = start (c .before) in
     let a = s .args in
     let l = c .before .loop in
-    column-done (a .dilating) (a .column) (l .k) (λ k x. readBit (a .inverse) (now (a .strip)) (8 * (k * a .r) + x)) (now (a .dst)) (l .dst) (omega arith) (l .inv .2)
+    column-done (a .dilating) (a .column) (l .k) (λ k x. readBit (a .inverse) (now (a .strip)) (8 * (k * a .r) + x)) (now (a .dst)) (l .dst) (omega arith)
+    (l .inv .2)
 
 pub join-column-spec : {M : Type 1} → statement M
 join-column-spec =

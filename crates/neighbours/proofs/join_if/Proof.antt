@@ -17,7 +17,8 @@ returns c =
     let at-join-rows = c .before .before in
     let then1 = at-join-rows .before .before in
     let s = then1 .before .before .before in
-    let a = s .args in row-if (a .dilating) (now (a .dst)) _ (readBit (a .inverse) (now (a .src))) (a .digit) (then1 .if1 .taken) (at-join-rows .join-rows .ensures)
+    let a = s .args in row-if (a .dilating) (now (a .dst)) _ (readBit (a .inverse) (now (a .src))) (a .digit) (then1 .if1 .taken)
+    (at-join-rows .join-rows .ensures)
 
 returns-2 : tie.Need-returns-2
 returns-2 c =

@@ -34,7 +34,8 @@ returns : tie.Need-returns
 returns c =
     let s = c .before .before .before .before in
     let a = s .args in
-    strip-idle (a .dilating) (a .r) (a .n) (a .column) (now (a .dst)) (λ y x k. stripBit (a .inverse) (now (a .buf)) (a .r) (x + (turned (a .dilating) (a .j) + 6)) (y + k)) (c .if1 .taken)
+    strip-idle (a .dilating) (a .r) (a .n) (a .column) (now (a .dst))
+    (λ y x k. stripBit (a .inverse) (now (a .buf)) (a .r) (x + (turned (a .dilating) (a .j) + 6)) (y + k)) (c .if1 .taken)
 
 reflect-requires : tie.Need-reflect-requires
 reflect-requires c κs = search needs
@@ -82,7 +83,8 @@ returns-2 c =
     let at-reflect = at-move-strip .before .before in
     let s = start at-reflect in
     let a = s .args in
-    strip-column (a .dilating) (a .inverse) (a .r) (a .n) (a .column) _ (turned (a .dilating) (a .j) + 6) (now (a .buf)) _ (now (a .dst)) _ (s .pre .1 .rows) (ap (λ (k : ℕ). k + 6) (at-reflect .reflect .ensures)) (at-move-strip .move-strip .ensures) (at-join-column .join-column .ensures)
+    strip-column (a .dilating) (a .inverse) (a .r) (a .n) (a .column) _ (turned (a .dilating) (a .j) + 6) (now (a .buf)) _ (now (a .dst)) _ (s .pre .1 .rows)
+    (ap (λ (k : ℕ). k + 6) (at-reflect .reflect .ensures)) (at-move-strip .move-strip .ensures) (at-join-column .join-column .ensures)
 
 pub join-moved-spec : {M : Type 1} → statement M
 join-moved-spec =

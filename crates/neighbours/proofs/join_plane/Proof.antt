@@ -11,7 +11,9 @@ use Rattle.neighbours.proofs.join_plane.Statement.{statement}
 use Rattle.neighbours.proofs.join_plane.Tie as tie
 
 abbrev Inv-loop : tie.InvT-loop
-Inv-loop dilating inverse own image work₀ p r h element buf₀ strip₀ most y₀ work buf strip y = (y ≤ h) × PlaneJoined dilating p r y work₀ work (λ y x. neighbours dilating element (sourceBit inverse (source own image work₀) r h) x y) × (length buf ≡ nearBytes + 2) × (length strip ≡ nearBytes)
+Inv-loop dilating inverse own image work₀ p r h element buf₀ strip₀ most y₀ work buf strip y =
+    (y ≤ h) × PlaneJoined dilating p r y work₀ work (λ y x. neighbours dilating element (sourceBit inverse (source own image work₀) r h) x y) ×
+    (length buf ≡ nearBytes + 2) × (length strip ≡ nearBytes)
 
 abbrev μ-loop : tie.MeasureT-loop
 μ-loop dilating inverse own image work₀ p r h element buf₀ strip₀ most y₀ work buf strip y = h - y
@@ -45,7 +47,8 @@ loop-holds c =
     let s = c .before .before in
     let a = s .args in (
       omega arith,
-      plane-start (a .dilating) (a .p) (a .r) (now (a .work)) (λ y x. neighbours (a .dilating) (a .element) (sourceBit (a .inverse) (source (a .own) (now (a .image)) (now (a .work))) (a .r) (a .h)) x y),
+      plane-start (a .dilating) (a .p) (a .r) (now (a .work))
+          (λ y x. neighbours (a .dilating) (a .element) (sourceBit (a .inverse) (source (a .own) (now (a .image)) (now (a .work))) (a .r) (a .h)) x y),
       length-replicate {A = ℕ} (nearBytes + 2) 0,
       length-replicate {A = ℕ} nearBytes 0,
     )
@@ -74,7 +77,7 @@ join-near-requires c κs =
         stride = s .pre .3;
         height = s .pre .4;
         rows = f .1;
-        near = omega (arith, f .2, l .inv .2)
+        near = omega (arith, f .2, l .inv .2);
       },
       s .pre .2,
       omega (arith, s .pre .1, l .inv .1 .size),
@@ -99,7 +102,8 @@ loop-again c =
     let s = start (turn at-lesser) in
     let a = s .args in (
       sized at-lesser .1,
-      plane-next (a .dilating) (a .inverse) (a .own) (a .p) (a .r) (a .h) (a .element) (l .y) (at-lesser .lesser .result) (now (a .image)) (now (a .work)) (l .work) _
+      plane-next (a .dilating) (a .inverse) (a .own) (a .p) (a .r) (a .h) (a .element) (l .y) (at-lesser .lesser .result) (now (a .image)) (now (a .work))
+          (l .work) _
           (s .pre .0) (l .inv .1) (at-join-near .join-near .ensures),
       omega (arith, at-join-near .join-near .kept .1 .1 .1 .1 .1 .1 .1 .1 .1 .1 .1 .0, l .inv .2),
       omega (arith, at-join-near .join-near .kept .1 .1 .1 .1 .1 .1 .1 .1 .1 .1 .1 .1 .0, l .inv .3),
@@ -114,7 +118,9 @@ returns c =
     let a = s .args in
     let l = c .before .loop in
     let e : l .y ≡ a .h = omega arith in
-    subst (λ (n : ℕ). PlaneJoined (a .dilating) (a .p) (a .r) n (now (a .work)) (l .work) (λ y x. neighbours (a .dilating) (a .element) (sourceBit (a .inverse) (source (a .own) (now (a .image)) (now (a .work))) (a .r) (a .h)) x y)) e (l .inv .1)
+    subst
+    (λ (n : ℕ). PlaneJoined (a .dilating) (a .p) (a .r) n (now (a .work)) (l .work) (λ y x. neighbours (a .dilating) (a .element) (sourceBit (a .inverse) (source (a .own) (now (a .image)) (now (a .work))) (a .r) (a .h)) x y))
+    e (l .inv .1)
 
 pub join-plane-spec : {M : Type 1} → statement M
 join-plane-spec =

@@ -11,7 +11,9 @@ use Rattle.neighbours.proofs.join_strip.Statement.{statement}
 use Rattle.neighbours.proofs.join_strip.Tie as tie
 
 abbrev Inv-loop : tie.InvT-loop
-Inv-loop dilating inverse buf strip₀ r n element dst₀ rest₀ j₀ strip dst rest j = (j ≤ 5) × (rest ≡ element / 2 ^ j) × (length strip ≡ length strip₀) × PlaneJoined dilating 0 r n dst₀ dst (λ y x. joined dilating j (columnAsks dilating element (stripBit inverse buf r) y x))
+Inv-loop dilating inverse buf strip₀ r n element dst₀ rest₀ j₀ strip dst rest j =
+    (j ≤ 5) × (rest ≡ element / 2 ^ j) × (length strip ≡ length strip₀) × PlaneJoined dilating 0 r n dst₀ dst
+    (λ y x. joined dilating j (columnAsks dilating element (stripBit inverse buf r) y x))
 
 abbrev μ-loop : tie.MeasureT-loop
 μ-loop dilating inverse buf strip₀ r n element dst₀ rest₀ j₀ strip dst rest j = 5 - j
@@ -49,7 +51,8 @@ loop-again c =
       omega arith,
       ap (λ (n : ℕ). n / 2) (l .inv .1) ∙ shr-shr (a .element) (l .j) 1,
       omega (arith, at-join-moved .join-moved .kept .1 .1 .1 .0, l .inv .2),
-      strip-more (a .dilating) (a .r) (a .n) (a .element) (l .rest) (l .j) (stripBit (a .inverse) (now (a .buf)) (a .r)) (now (a .dst)) (l .dst) _ (l .inv .1) (l .inv .3) (at-join-moved .join-moved .ensures),
+      strip-more (a .dilating) (a .r) (a .n) (a .element) (l .rest) (l .j) (stripBit (a .inverse) (now (a .buf)) (a .r)) (now (a .dst)) (l .dst) _ (l .inv .1)
+          (l .inv .3) (at-join-moved .join-moved .ensures),
     )
 
 same-length : tie.Need-same-length Inv-loop μ-loop

@@ -29,7 +29,7 @@ fits c =
     let s = start c in
     let a = s .args in
     let F = load-fits (a .r) (a .h) (a .y) (a .n) (from c) (rows c) (blank c) (s .pre .rows) (c .before .before .less .ensures) (c .before .less2 .ensures)
-        (ap (λ (m : ℕ). m - from c) (c .lesser .ensures)) in
+    (ap (λ (m : ℕ). m - from c) (c .lesser .ensures)) in
     (omega (arith, F .1, s .pre .plane-rows), omega (arith, F .0, s .pre .near))
 
 fill-requires : tie.Need-fill-requires

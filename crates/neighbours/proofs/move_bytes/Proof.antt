@@ -75,7 +75,9 @@ returns-5 c =
     let else1 = else2 .before in
     let s = start else1 in
     let a = s .args in
-    moved-by 10 (a .s) (now (a .buf)) (now (a .dst)) _ (last-move (a .s) (s .pre .0 .least) (s .pre .0 .most) (else1 .if1 .left) (else2 .if2 .left) (else3 .if3 .left) (else4 .if4 .left)) (at-move-rows5 .move-rows5 .ensures)
+    moved-by 10 (a .s) (now (a .buf)) (now (a .dst)) _
+    (last-move (a .s) (s .pre .0 .least) (s .pre .0 .most) (else1 .if1 .left) (else2 .if2 .left) (else3 .if3 .left) (else4 .if4 .left))
+    (at-move-rows5 .move-rows5 .ensures)
 
 pub move-bytes-spec : {M : Type 1} → statement M
 move-bytes-spec =

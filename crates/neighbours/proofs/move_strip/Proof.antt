@@ -40,7 +40,9 @@ returns c =
     let at-move-bytes = at-clear-ends .before .before .before .before .before in
     let s = start (at-move-bytes .before) in
     let a = s .args in
-    strip-cleared (now (a .buf)) _ (a .s) (a .r) (a .m) (strip-first (a .m * a .r) (a .s) (now (a .buf)) (now (a .strip)) _ (s .pre .3) (at-move-bytes .move-bytes .ensures)) _ (at-clear-ends .clear-ends .ensures)
+    strip-cleared (now (a .buf)) _ (a .s) (a .r) (a .m)
+    (strip-first (a .m * a .r) (a .s) (now (a .buf)) (now (a .strip)) _ (s .pre .3) (at-move-bytes .move-bytes .ensures)) _
+    (at-clear-ends .clear-ends .ensures)
 
 same-length-2 : tie.Need-same-length-2
 same-length-2 c = search needs
@@ -50,7 +52,8 @@ returns-2 c =
     let at-move-bytes = c .before .before .before in
     let s = start (at-move-bytes .before) in
     let a = s .args in
-    strip-whole (now (a .buf)) _ (a .s) (a .r) (a .m) (strip-first (a .m * a .r) (a .s) (now (a .buf)) (now (a .strip)) _ (s .pre .3) (at-move-bytes .move-bytes .ensures)) (c .if1 .left)
+    strip-whole (now (a .buf)) _ (a .s) (a .r) (a .m)
+    (strip-first (a .m * a .r) (a .s) (now (a .buf)) (now (a .strip)) _ (s .pre .3) (at-move-bytes .move-bytes .ensures)) (c .if1 .left)
 
 pub move-strip-spec : {M : Type 1} → statement M
 move-strip-spec =
