@@ -17,7 +17,8 @@ use Rattle.calls.proofs.CallLaws.{Owed}
 
 -- a reply's bytes from those of its values
 pub bytes-replied : (r : Reply) (a b c : List ℕ) → a ≡ fourBytes (r .first) → b ≡ fourBytes (r .second) → c ≡ fourBytes (r .third)
-    → (r .refusal ∷ r .count ∷ getD a 0 0 ∷ getD a 1 0 ∷ getD a 2 0 ∷ getD a 3 0 ∷ getD b 0 0 ∷ getD b 1 0 ∷ getD b 2 0 ∷ getD b 3 0 ∷ getD c 0 0 ∷ getD c 1 0 ∷ getD c 2 0 ∷ getD c 3 0 ∷ [])
+    → (r .refusal ∷ r .count ∷ getD a 0 0 ∷ getD a 1 0 ∷ getD a 2 0 ∷ getD a 3 0 ∷ getD b 0 0 ∷ getD b 1 0 ∷ getD b 2 0 ∷ getD b 3 0 ∷ getD c 0 0 ∷ getD c 1
+    0 ∷ getD c 2 0 ∷ getD c 3 0 ∷ [])
     ≡ replyBytes r
 bytes-replied r a b c e f g =
     ap (λ (l : List ℕ). r .refusal ∷ r .count ∷ (four l ++ (four b ++ four c))) e
@@ -43,7 +44,8 @@ module _ (s x y z c counters : List ℕ) where
   replied-wrong bytes f e = ap (λ (b : List ℕ). b ∷ y ∷ z ∷ c ∷ counters ∷ []) e ∙ sym (replied-by true (ap not (ne-eqb _ _ f)))
 
   -- the call is made
-  pub replied-made : (W H a b : ℕ) (c₁ : List ℕ) (r : Reply) (bytes y′ z′ c₂ c′ : List ℕ) → length c ≡ 2 * length counters → W ≡ numberAt s 1 → H ≡ numberAt s 5 → a ≡ numberAt s 9
+  pub replied-made : (W H a b : ℕ) (c₁ : List ℕ) (r : Reply) (bytes y′ z′ c₂ c′ : List ℕ) → length c ≡ 2 * length counters → W ≡ numberAt s 1
+      → H ≡ numberAt s 5 → a ≡ numberAt s 9
       → b ≡ numberAt s 13 → c₁ ≡ countersOf c → Owed r (y′ ∷ z′ ∷ c₂ ∷ []) (called (getD s 0 0) W H a b x y z c₁) → bytes ≡ replyBytes r → c′ ≡ counterBytes c₂
       → bytes ∷ y′ ∷ z′ ∷ c′ ∷ c₂ ∷ [] ≡ replied s x y z c counters
   unfolding firstRefusal

@@ -60,15 +60,18 @@ two-of (suc (suc n)) h f g = omega arith
 both-sides : (W lo hi x a b : ℕ) → x < W → Room (λ n. leb (n * lo) x) a → Room (λ n. leb (n * hi) (W - 1 - x)) b → (n : ℕ) → n < maxLabel
     → (leb n a && leb n b) ≡ roomAt W lo hi x n
 both-sides W lo hi x a b h f g n l =
-    ap₂ _&&_ (f n l) (g n l ∙ T-ext (λ t. let k = leb→le (n * hi) (W - 1 - x) t in lt→ltb (x + n * hi) W (omega arith)) (λ t. let k = ltb→lt (x + n * hi) W t in le→leb (n * hi) (W - 1 - x) (omega arith)))
+    ap₂ _&&_ (f n l) (g n l ∙ T-ext (λ t. let k = leb→le (n * hi) (W - 1 - x) t in lt→ltb (x + n * hi) W (omega arith))
+    (λ t. let k = ltb→lt (x + n * hi) W t in le→leb (n * hi) (W - 1 - x) (omega arith)))
 
 pub room-back : (W lo hi x a b : ℕ) → x < W → a ≤ b → Room (λ n. leb (n * lo) x) a → Room (λ n. leb (n * hi) (W - 1 - x)) b → Room (roomAt W lo hi x) a
 room-back W lo hi x a b h k f g n l =
-    T-ext (λ t. and-in (leb n a) (leb n b) t (let q = leb→le n a t in le→leb n b (omega arith))) (and-l (leb n a) (leb n b)) ∙ both-sides W lo hi x a b h f g n l
+    T-ext (λ t. and-in (leb n a) (leb n b) t (let q = leb→le n a t in le→leb n b (omega arith))) (and-l (leb n a) (leb n b))
+    ∙ both-sides W lo hi x a b h f g n l
 
 pub room-forward : (W lo hi x a b : ℕ) → x < W → b ≤ a → Room (λ n. leb (n * lo) x) a → Room (λ n. leb (n * hi) (W - 1 - x)) b → Room (roomAt W lo hi x) b
 room-forward W lo hi x a b h k f g n l =
-    T-ext (λ t. and-in (leb n a) (leb n b) (let q = leb→le n b t in le→leb n a (omega arith)) t) (and-r (leb n a) (leb n b)) ∙ both-sides W lo hi x a b h f g n l
+    T-ext (λ t. and-in (leb n a) (leb n b) (let q = leb→le n b t in le→leb n a (omega arith)) t) (and-r (leb n a) (leb n b))
+    ∙ both-sides W lo hi x a b h f g n l
 
 -- ---- the limit
 
@@ -84,7 +87,8 @@ limit-is k r l f g (suc n) h = by (decLe k n) (decLe n r)
         above : Dec (l ≤ n) → suc n ≤ l
         above (yes q) = let z = f n (omega arith) q .1 in absurd (omega arith)
         above (no q) = omega arith
-    by (yes a) (no b) = lt-ltb l (suc n) (let z = g n (omega arith) a (omega arith) in omega arith) ∙ sym (ap₂ (λ (s t : Bool). s && not t) (le-leb k n a) (lt-leb n r (omega arith)))
+    by (yes a) (no b) = lt-ltb l (suc n) (let z = g n (omega arith) a (omega arith) in omega arith)
+        ∙ sym (ap₂ (λ (s t : Bool). s && not t) (le-leb k n a) (lt-leb n r (omega arith)))
     by (no a) d = le-ltb l (suc n) (above (decLe l n)) ∙ sym (ap (λ (s : Bool). s && not (leb n r)) (lt-leb k n (omega arith)))
       where
         above : Dec (l ≤ n) → suc n ≤ l
@@ -101,7 +105,8 @@ limit-of k l f g e m (suc n) h = m (suc n) h ∙ ap (λ (t : Bool). leb k n && n
 pub limits-more : (P : ℕ → ℕ → Type 0) (limits : List ℕ) (x v : ℕ) → x < length limits → ((j : ℕ) → j < x → P j (getD limits j 0)) → P x v
     → (j : ℕ) → j < x + 1 → P j (getD (set limits x v) j 0)
 limits-more P limits x v h f p =
-    below-more (λ (j : ℕ). P j (getD (set limits x v) j 0)) x (λ j l. subst (P j) (sym (getD-set-other limits x j v 0 (λ q. omega arith))) (f j l)) (subst (P x) (sym (getD-set-same limits x v 0 h)) p)
+    below-more (λ (j : ℕ). P j (getD (set limits x v) j 0)) x (λ j l. subst (P j) (sym (getD-set-other limits x j v 0 (λ q. omega arith))) (f j l))
+    (subst (P x) (sym (getD-set-same limits x v 0 h)) p)
 
 -- ---- a row
 
@@ -133,7 +138,8 @@ unfolding leaves tooLarge boxed
 leaves-sides W H B ob k x y zero = refl
 leaves-sides W H B ob k x y (suc n) =
     ap (λ (b : Bool). leb k n && not b) (box-exact W H B ob n (at (pos x) (pos y)))
-    ∙ either (leb k n) (roomAt W (extent (measure true false) B) (extent (measure true true) B) x n) (roomAt H (extent (measure false false) B) (extent (measure false true) B) y n)
+    ∙ either (leb k n) (roomAt W (extent (measure true false) B) (extent (measure true true) B) x n)
+    (roomAt H (extent (measure false false) B) (extent (measure false true) B) y n)
   where
     either : (a b c : Bool) → (a && not (b && c)) ≡ ((a && not b) || (a && not c))
     either true true c = refl
@@ -155,7 +161,8 @@ wild-rows W H B k m = T-ext to of
         let x = q .0 in
         let y = q .1 in
         let z : T (leaves W H B k (at (pos x) (pos y)) (getD m (y * W + x) 0)) =
-        subst T (ap (λ (p : Point). leaves W H B k p (labelAt W H m p)) (q .4) ∙ ap (leaves W H B k (at (pos x) (pos y))) (labelAt-at W H m x y (q .2) (q .3))) (r .2) in
+        subst T (ap (λ (p : Point). leaves W H B k p (labelAt W H m p)) (q .4) ∙ ap (leaves W H B k (at (pos x) (pos y))) (labelAt-at W H m x y (q .2) (q .3)))
+        (r .2) in
         any-in (rowWild W H B k m) (in-upTo H y (q .3)) (any-in (λ x. leaves W H B k (at (pos x) (pos y)) (getD m (y * W + x) 0)) (in-upTo W x (q .2)) z)
 
     of : T (someOf (rowWild W H B k m) (upTo H)) → T (someOf (λ p. leaves W H B k p (labelAt W H m p)) (places W H))
@@ -191,13 +198,15 @@ abbrev pub rowOver : List ℕ → List ℕ → ℕ → Bool
 rowOver row limits l = someOf (λ x. over (getD row x 0) (getD limits x 0) l) (upTo (length row))
 
 -- a part of W labels has a limit for each
-pub part-limited : {W H : ℕ} {B : List Point} {k : ℕ} {m : List ℕ} {left right up down : ℕ} {limits : List ℕ} → Ready W H B k m left right up down limits → (a : ℕ)
+pub part-limited : {W H : ℕ} {B : List Point} {k : ℕ} {m : List ℕ} {left right up down : ℕ} {limits : List ℕ} → Ready W H B k m left right up down limits
+    → (a : ℕ)
     → length (take (a + W - a) (drop a m)) ≤ length limits
 part-limited {W} {m = m} {limits = limits} r a =
     let n : ℕ = a + W - a in
     omega (arith, length-take n (drop a m), min-le-left n (length (drop a m)), r .room)
 
-module _ {W H : ℕ} {B : List Point} {k : ℕ} {m : List ℕ} {left right up down : ℕ} {limits : List ℕ} (r : Ready W H B k m left right up down limits) (y : ℕ) (h : y < H) where
+module _ {W H : ℕ} {B : List Point} {k : ℕ} {m : List ℕ} {left right up down : ℕ} {limits : List ℕ} (r : Ready W H B k m left right up down limits) (y : ℕ)
+    (h : y < H) where
   pub row-fits : y * W + W ≤ length m
   row-fits = omega (arith, row-in y H W (H * W) h (le-refl (H * W)), mul-comm H W, r .size)
 
@@ -214,13 +223,15 @@ module _ {W H : ℕ} {B : List Point} {k : ℕ} {m : List ℕ} {left right up do
         ap (λ (i : ℕ). over i (getD limits x 0) l) (getD-take (y * W + W - y * W) (drop (y * W) m) x 0 (omega arith) ∙ getD-drop (y * W) m x 0)
         ∙ ap₂ _||_ (r .columns x hx v (r .labels (y * W + x))) (row v (r .labels (y * W + x)))
         ∙ ap₂ (λ (a b : ℕ). tooLarge k (roomAt W a b x) v || tooLarge k (roomAt H up down y) v) (r .leftward) (r .rightward)
-        ∙ ap₂ (λ (a b : ℕ). tooLarge k (roomAt W (extent (measure true false) B) (extent (measure true true) B) x) v || tooLarge k (roomAt H a b y) v) (r .upward) (r .downward)
+        ∙ ap₂ (λ (a b : ℕ). tooLarge k (roomAt W (extent (measure true false) B) (extent (measure true true) B) x) v || tooLarge k (roomAt H a b y) v)
+        (r .upward) (r .downward)
         ∙ sym (leaves-sides W H B (r .shape .centred) k x y v)
 
     row-exact : rowOver (rowOf W m y) limits l ≡ rowWild W H B k m y
     row-exact =
         ap (λ (i : ℕ). someOf (λ x. over (getD (rowOf W m y) x 0) (getD limits x 0) l) (upTo i)) row-length
-        ∙ any-agree (λ x. over (getD (rowOf W m y) x 0) (getD limits x 0) l) (λ x. leaves W H B k (at (pos x) (pos y)) (getD m (y * W + x) 0)) (upTo W) (λ x i. label-exact x (of-upTo W i))
+        ∙ any-agree (λ x. over (getD (rowOf W m y) x 0) (getD limits x 0) l) (λ x. leaves W H B k (at (pos x) (pos y)) (getD m (y * W + x) 0)) (upTo W)
+        (λ x i. label-exact x (of-upTo W i))
 
     -- a row that leaves the frame
     pub wild-stop : rowOver (rowOf W m y) limits l ≡ true → true ≡ isWild W H B k m

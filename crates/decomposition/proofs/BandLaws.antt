@@ -1,20 +1,18 @@
 -- The band of rows that hold the foreground: how it is found, and a turn of a decomposition on it.
-use mathlib.Core.Bool.{Bool, _&&_, _||_, cond, false, not, true}
-use mathlib.Core.List.{List, [], _++_, _∷_}
-use mathlib.Core.Path.{_∙_, _≡_, ap, ap₂, refl, subst, sym}
-use Prim.Native.Nat.{_*_, _+_, _-_, _/_, _<_, _≤_, suc, ℕ}
+use mathlib.Core.Bool.{Bool, _&&_, cond, not}
+use mathlib.Core.List.{List, _++_}
+use mathlib.Core.Path.{_∙_, _≡_, ap, ap₂, subst, sym}
+use Prim.Native.Nat.{_*_, _+_, _-_, _/_, _<_, _≤_, ℕ}
 use native.Mathlib.Decide.{decLt}
-use native.Mathlib.Nat.{add-mul, div-lt-iff-lt-mul, le-div-iff-mul-le, le-refl, mul-comm, mul-le-mul-right, not-suc-le-zero, zero-add, zero-lt-suc}
+use native.Mathlib.Nat.{add-mul, div-lt-iff-lt-mul, le-div-iff-mul-le, le-refl, mul-comm, mul-le-mul-right, not-suc-le-zero, zero-add}
 use native.Mathlib.Omega.{arith}
-use borrow.Author.Tests.{eq-eqb}
 use lib.Arith.{digits-div, digits-lt}
-use lib.Dec.{T, eqb}
-use lib.ListN.{drop, getD, getD-replicate, length, length-drop, take}
+use lib.Dec.{T}
+use lib.ListN.{drop, getD, length, length-drop, take}
 use lib.Seq.{ext-getD, getD-drop, getD-take, length-take-le}
 use Rattle.morphology.specs.Element.{isElement, offsets}
 use Rattle.morphology.specs.Image.{imageSet, isClean, pack, planeBytes, stride}
 use Rattle.morphology.specs.Labels.{place}
-use Rattle.morphology.specs.Lists.{someOf}
 use Rattle.morphology.specs.Morphology.{erode, opening}
 use Rattle.morphology.specs.Point.{Point}
 use Rattle.morphology.proofs.BandLaws.{InRows, area-moved, erode-moved, moved, moved-on, open-moved, pack-moved, pack-outside, place-moved, place-outside, rows-in}
@@ -28,48 +26,11 @@ use Rattle.planes.proofs.PlaneLaws.{frame-bytes, frame-row, origin-in}
 use Rattle.morphology.proofs.ElementLaws.{element-bit}
 use Rattle.raster.specs.Rows.{overwrite}
 use Rattle.raster.proofs.PartLaws.{PartIs, part-back, part-overwrite}
-use Rattle.iteration.proofs.StepLaws.{first-start, zeros-out}
+use Rattle.iteration.proofs.StepLaws.{first-start}
 use Rattle.label_write.specs.Labelled.{Labelled}
-use Rattle.decomposition.specs.Bands.{Banded, BlankRow, EndRow, FirstRow}
+use Rattle.raster.specs.Bands.{BlankRow, EndRow, FirstRow}
+use Rattle.decomposition.specs.Bands.{Banded}
 use Rattle.decomposition.specs.Turns.{Stepped, Turned}
-
--- ---- rows with and without ink
-
-zeros-in : (l : List ℕ) → ((i : ℕ) → i < length l → getD l i 0 ≡ 0) → someOf (λ b. not (eqb b 0)) l ≡ false
-zeros-in [] f = refl
-zeros-in (b ∷ l) f =
-    ap₂ (λ (t u : Bool). not t || u) (eq-eqb b 0 (f 0 (zero-lt-suc (length l)))) (zeros-in l (λ i h. f (suc i) (omega arith)))
-
--- a row of k = r bytes, as it is lent
-module _ (r y k : ℕ) (s : List ℕ) (e : k ≡ r) (h : y * r + r ≤ length s) where
-  cut : length (take k (drop (y * r) s)) ≡ r
-  cut = length-take-le k (drop (y * r) s) (omega (arith, length-drop (y * r) s)) ∙ e
-
-  byte : (i : ℕ) → i < r → getD (take k (drop (y * r) s)) i 0 ≡ getD s (y * r + i) 0
-  byte i l = getD-take k (drop (y * r) s) i 0 (omega arith) ∙ getD-drop (y * r) s i 0
-
-  pub row-blank : someOf (λ b. not (eqb b 0)) (take k (drop (y * r) s)) ≡ false → BlankRow r s y
-  row-blank z i l =
-      let t = take k (drop (y * r) s) in
-      sym (byte i l) ∙ ap (λ (m : List ℕ). getD m i 0) (zeros-out t z) ∙ getD-replicate (length t) i 0 0 (omega (arith, cut))
-
-  pub row-ink : someOf (λ b. not (eqb b 0)) (take k (drop (y * r) s)) ≡ true → BlankRow r s y → ⊥
-  row-ink z f = subst T (sym z ∙ zeros-in (take k (drop (y * r) s)) (λ i l. let q : i < r = omega (arith, cut) in byte i q ∙ f i q)) tt
-
--- one more blank row, at the end and at the start
-pub blank-more : (r a y : ℕ) (s : List ℕ) → ((k : ℕ) → a ≤ k → k < y → BlankRow r s k) → BlankRow r s y → (k : ℕ) → a ≤ k → k < y + 1 → BlankRow r s k
-blank-more r a y s f b k l u = by (decLt k y)
-  where
-    by : Dec (k < y) → BlankRow r s k
-    by (yes h) = f k l h
-    by (no h) = let e : y ≡ k = omega arith in subst (BlankRow r s) e b
-
-pub blank-less : (r y b : ℕ) (s : List ℕ) → 0 < y → ((k : ℕ) → y ≤ k → k < b → BlankRow r s k) → BlankRow r s (y - 1) → (k : ℕ) → y - 1 ≤ k → k < b → BlankRow r s k
-blank-less r y b s p f z k l u = by (decLt k y)
-  where
-    by : Dec (k < y) → BlankRow r s k
-    by (yes h) = let e : y - 1 ≡ k = omega arith in subst (BlankRow r s) e z
-    by (no h) = f k (omega arith) u
 
 -- the band found anew in the rows a up to b
 pub banded-found : (h r a b a′ b′ : ℕ) (s : List ℕ) → b ≤ h → ((y : ℕ) → y < a → BlankRow r s y) → ((y : ℕ) → b ≤ y → y < h → BlankRow r s y)
@@ -124,7 +85,8 @@ labelled-back W H a n k v S old ys found hW fit ek len rows m = record {
         let j = i - a * W in
         let e : a * W + j ≡ i = omega arith in
         ap (λ (x : ℕ). getD new x 0) (sym e) ∙ p .within j (omega arith) ∙ m .places j (omega (arith, mul-comm W n))
-        ∙ ap₂ (λ (t : Bool) (c : ℕ). cond t v c) (place-moved W H a n S hW fit rows j) (getD-take k (drop (a * W) old) j 0 (omega arith) ∙ getD-drop (a * W) old j 0)
+        ∙ ap₂ (λ (t : Bool) (c : ℕ). cond t v c) (place-moved W H a n S hW fit rows j)
+        (getD-take k (drop (a * W) old) j 0 (omega arith) ∙ getD-drop (a * W) old j 0)
         ∙ ap (λ (x : ℕ). cond (S (place W x)) v (getD old x 0)) e
 
 -- ---- a set in the band
@@ -163,7 +125,8 @@ module _ (W H r a b : ℕ) (Y : Point → Bool) (s : List ℕ) (f : Frame W H r)
         out (omega arith) (omega (arith, d .order)))
 
     pub banded-next : (a′ b′ : ℕ) → FirstRow r a b s′ a′ → EndRow r a′ b s′ b′ → Banded H r a′ b′ s′
-    banded-next a′ b′ = banded-found H r a b a′ b′ s′ (d .down) (λ y l. kept y (omega (arith, d .order, d .down)) (λ u v. omega arith)) (λ y l u. kept y u (λ v w. omega arith))
+    banded-next a′ b′ = banded-found H r a b a′ b′ s′ (d .down) (λ y l. kept y (omega (arith, d .order, d .down)) (λ u v. omega arith))
+        (λ y l u. kept y u (λ v w. omega arith))
 
 -- the band in rows of k elements
 pub band-span : {h r a b : ℕ} {s : List ℕ} → Banded h r a b s → (k : ℕ) → a * k + (b - a) * k ≤ h * k
@@ -238,16 +201,19 @@ module _ (W H r a b e : ℕ) (work : List ℕ) (f : Frame W H r) (h : 3 * (H * r
 
     pub band-stepped : (v found m : ℕ) (ys labels ls : List ℕ) → m ≡ (b - a) * W → length labels ≡ W * H
         → Turned W (b - a) (H * r) (offsets e) v (take k (drop (a * r) work)) ys (take m (drop (a * W) labels)) ls found
-        → Stepped W H (H * r) (offsets e) v work (take (a * r) work ++ (ys ++ drop k (drop (a * r) work))) labels (take (a * W) labels ++ (ls ++ drop m (drop (a * W) labels))) found
+        → Stepped W H (H * r) (offsets e) v work (take (a * r) work ++ (ys ++ drop k (drop (a * r) work))) labels
+        (take (a * W) labels ++ (ls ++ drop m (drop (a * W) labels))) found
     unfolding u moved
     band-stepped v found m ys labels ls em len t = record {
       size = whole .size;
       eroded = ext-getD 0 (take p new) (pack W H (erode B X)) (cut ∙ frame-bytes f ∙ sym (length-pack W H (erode B X))) (λ j l.
           let hj : j < H * r = omega (arith, cut) in
           getD-take p new j 0 hj ∙ by j hj (decLt j (a * r)) (decLt j (a * r + n * r)));
-      rest = ext-getD 0 (drop (3 * p) new) (drop (3 * p) work) (length-drop (3 * p) new ∙ ap (λ (i : ℕ). i - 3 * p) (whole .size) ∙ sym (length-drop (3 * p) work)) (λ j l.
+      rest = ext-getD 0 (drop (3 * p) new) (drop (3 * p) work)
+          (length-drop (3 * p) new ∙ ap (λ (i : ℕ). i - 3 * p) (whole .size) ∙ sym (length-drop (3 * p) work)) (λ j l.
           getD-drop (3 * p) new j 0 ∙ past (3 * p + j) (omega arith) (omega (arith, length-drop (3 * p) new, whole .size)) ∙ sym (getD-drop (3 * p) work j 0));
-      points = labelled-back W H a n m v (λ z. X z && not (opening B X z)) labels ls found (f .wide) fit em len (λ z g. rows z (and-l (X z) (not (opening B X z)) g))
+      points = labelled-back W H a n m v (λ z. X z && not (opening B X z)) labels ls found (f .wide) fit em len
+          (λ z g. rows z (and-l (X z) (not (opening B X z)) g))
           (subst (λ (S : Point → Bool). Labelled W n S v (take m (drop (a * W) labels)) ls found) subset (t .points));
     }
       where
@@ -276,7 +242,8 @@ module _ (W H r a b e : ℕ) (work : List ℕ) (f : Frame W H r) (h : 3 * (H * r
         part₂ = part-overwrite (p + p) (n * r) (overwrite p E u) O sizeO (omega (arith, part₁ .size, band-long))
 
         part₃ : PartIs 0 (n * r) (overwrite (p + p) O (overwrite p E u)) E ys
-        part₃ = subst (PartIs 0 (n * r) (overwrite (p + p) O (overwrite p E u)) E) (sym (t .planes)) (part-overwrite 0 (n * r) (overwrite (p + p) O (overwrite p E u)) E sizeE (omega (arith, part₁ .size, part₂ .size, band-long)))
+        part₃ = subst (PartIs 0 (n * r) (overwrite (p + p) O (overwrite p E u)) E) (sym (t .planes))
+            (part-overwrite 0 (n * r) (overwrite (p + p) O (overwrite p E u)) E sizeE (omega (arith, part₁ .size, part₂ .size, band-long)))
 
         whole : PartIs (a * r) k work ys new
         whole = part-back (a * r) k work ys (omega (arith, rows-bytes)) (part₃ .size ∙ part₂ .size ∙ part₁ .size ∙ long)
@@ -298,24 +265,28 @@ module _ (W H r a b e : ℕ) (work : List ℕ) (f : Frame W H r) (h : 3 * (H * r
         past j l g =
             let i = j - a * r in
             let q : p + p + n * r ≤ i = omega (arith, rows-bytes) in
-            within j (omega (arith, rows-bytes)) g ∙ part₃ .after i (omega arith) ∙ part₂ .after i (omega arith) ∙ part₁ .after i (omega arith) ∙ back j (omega (arith, rows-bytes)) g
+            within j (omega (arith, rows-bytes)) g ∙ part₃ .after i (omega arith) ∙ part₂ .after i (omega arith) ∙ part₁ .after i (omega arith)
+            ∙ back j (omega (arith, rows-bytes)) g
 
         outside : (j : ℕ) → j < H * r → (a * r ≤ j → j < a * r + n * r → ⊥) → getD work j 0 ≡ getD (pack W H (erode B X)) j 0
         outside j l g =
             let z : H * r ≡ planeBytes W H = frame-bytes f in
             let out : a * stride W ≤ j → j < (a + n) * stride W → ⊥ =
             λ x y. g (omega (arith, ap (λ (i : ℕ). a * i) (f .row))) (omega (arith, ap (λ (i : ℕ). (a + n) * i) (f .row), add-mul a n r)) in
-            at-plane j l ∙ pack-outside W H a n X (some-byte f) fit rows j (omega arith) out ∙ sym (pack-outside W H a n (erode B X) (some-byte f) fit rowsE j (omega arith) out)
+            at-plane j l ∙ pack-outside W H a n X (some-byte f) fit rows j (omega arith) out
+            ∙ sym (pack-outside W H a n (erode B X) (some-byte f) fit rowsE j (omega arith) out)
 
         by : (j : ℕ) → j < H * r → Dec (j < a * r) → Dec (j < a * r + n * r) → getD new j 0 ≡ getD (pack W H (erode B X)) j 0
         by j l (yes x) y = whole .before j x ∙ outside j l (λ g _. omega arith)
         by j l (no x) (no y) =
             let i = j - a * r in
-            within j (omega arith) (omega arith) ∙ part₃ .after i (omega arith) ∙ part₂ .before i (omega arith) ∙ part₁ .before i (omega arith) ∙ back j (omega arith) (omega arith) ∙ outside j l (λ _ g. omega arith)
+            within j (omega arith) (omega arith) ∙ part₃ .after i (omega arith) ∙ part₂ .before i (omega arith) ∙ part₁ .before i (omega arith)
+            ∙ back j (omega arith) (omega arith) ∙ outside j l (λ _ g. omega arith)
         by j l (no x) (yes y) =
             let i = j - a * r in
             let hi : i < n * r = omega arith in
             let z : a * r + i ≡ j = omega arith in
             within j (omega arith) (omega arith) ∙ ap (λ (c : ℕ). getD ys c 0) (sym (zero-add i)) ∙ part₃ .within i hi
             ∙ ap (λ (Y : Point → Bool). getD (pack W n Y) i 0) (ap (erode B) image ∙ erode-moved B a X)
-            ∙ pack-moved W H a n (erode B X) (some-byte f) fit i (omega (arith, frame-bytes band-frame)) ∙ ap (λ (c : ℕ). getD (pack W H (erode B X)) (a * c + i) 0) (sym (f .row)) ∙ ap (λ (c : ℕ). getD (pack W H (erode B X)) c 0) z
+            ∙ pack-moved W H a n (erode B X) (some-byte f) fit i (omega (arith, frame-bytes band-frame))
+            ∙ ap (λ (c : ℕ). getD (pack W H (erode B X)) (a * c + i) 0) (sym (f .row)) ∙ ap (λ (c : ℕ). getD (pack W H (erode B X)) c 0) z

@@ -38,7 +38,8 @@ use Rattle.raster.proofs.RowLaws.{row-in}
 use Rattle.raster.proofs.PartLaws.{PartIs, drop-overwrite, length-overwrite, part-overwrite}
 use Rattle.iteration.specs.Steps.{First, Ready, Sheet}
 use Rattle.label_write.specs.Labelled.{Labelled, lacking}
-use Rattle.decomposition.specs.Bands.{Banded, EndRow, FirstRow}
+use Rattle.raster.specs.Bands.{EndRow, FirstRow}
+use Rattle.decomposition.specs.Bands.{Banded}
 use Rattle.decomposition.specs.Turns.{Finished, Stepped, Took, Turned, Turns}
 use Rattle.decomposition.proofs.BandLaws.{banded-next, banded-rows, eroded-sub}
 use Rattle.iteration.proofs.StepLaws.{first-clean, first-image, sheet-bytes}

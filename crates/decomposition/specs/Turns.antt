@@ -2,16 +2,27 @@
 use mathlib.Core.Bool.{Bool, _&&_, not}
 use mathlib.Core.List.{List}
 use mathlib.Core.Path.{_≡_}
-use Prim.Native.Nat.{_*_, _+_, suc, ℕ}
+use Prim.Native.Nat.{_*_, _+_, _≤_, suc, ℕ}
 use lib.Dec.{T}
 use lib.ListN.{drop, length, take}
-use Rattle.morphology.specs.Image.{imageSet, pack}
+use Rattle.morphology.specs.Element.{isElement}
+use Rattle.morphology.specs.Image.{imageSet, isClean, pack}
 use Rattle.morphology.specs.Labels.{pointsOf, raster}
 use Rattle.morphology.specs.Morphology.{erode, opening, times}
 use Rattle.morphology.specs.Point.{Point}
 use Rattle.morphology.specs.Skeleton.{skeletonFunction}
+use Rattle.planes.specs.Frames.{Frame}
 use Rattle.label_write.specs.Labelled.{Labelled}
 use Rattle.raster.specs.Rows.{overwrite}
+
+-- what a turn begins with: three planes, p bytes apart, of which the first is clean, and a label for each place
+pub record TurnStart (W H r p e : ℕ) (labels work : List ℕ) : Type 0 where
+  pub frame : Frame W H r
+  pub apart : H * r ≤ p
+  pub planes : p + p + H * r ≤ length work
+  pub places : length labels ≡ W * H
+  pub element : T (isElement e)
+  pub clean : T (isClean W H work)
 
 -- one turn of a decomposition: the plane eroded, and v at its points that its opening lacks
 pub record Turned (W H p : ℕ) (B : List Point) (v : ℕ) (work work′ labels labels′ : List ℕ) (found : ℕ) : Type 0 where

@@ -1,6 +1,4 @@
 // The turns of a decomposition: labels of an image by size.
-mod bands;
-
 ghost use mathlib.Core.Path.{_≡_};
 ghost use Prim.Native.Nat.{_+_, _*_, _≤_};
 ghost use lib.Dec.{T};
@@ -12,7 +10,7 @@ ghost use Rattle.morphology.specs.Operations.{cleared};
 ghost use Rattle.planes.specs.Frames.{Frame};
 ghost use Rattle.iteration.specs.Steps.{Sheet, Ready};
 ghost use Rattle.decomposition.specs.Bands.{Banded};
-ghost use Rattle.decomposition.specs.Turns.{Turned, Stepped, Took, Finished};
+ghost use Rattle.decomposition.specs.Turns.{TurnStart, Turned, Stepped, Took, Finished};
 
 // What the turns of a decomposition found: the points, and how many turns had one.
 pub struct Found {
@@ -31,7 +29,7 @@ fn turn(
     labels: &mut [u8],
     work: &mut [u8],
 ) -> u32
-    requires { ⌜ Frame w h r × (h * r ≤ p) × (p + p + h * r ≤ length (now work)) × (length (now labels) ≡ w * h) × T (isElement element) × T (isClean w h (now work)) ⌝ }
+    requires { ⌜ TurnStart w h r p element (now labels) (now work) ⌝ }
     ensures { λ n. ⌜ Turned w h p (offsets element) v (now (work .entry)) (now (work .exit)) (now (labels .entry)) (now (labels .exit)) n ⌝ }
 {
     planes::open_plane(w, h, r, p, element, work);
@@ -52,7 +50,7 @@ fn turn_band(
     labels: &mut [u8],
     work: &mut [u8],
 ) -> u32
-    requires { ⌜ Frame w h r × (3 * (h * r) ≤ length (now work)) × (length (now labels) ≡ w * h) × T (isElement element) × T (isClean w h (now work)) × Banded h r from to (take (h * r) (now work)) ⌝ }
+    requires { ⌜ TurnStart w h r (h * r) element (now labels) (now work) × Banded h r from to (take (h * r) (now work)) ⌝ }
     ensures { λ n. ⌜ Stepped w h (h * r) (offsets element) v (now (work .entry)) (now (work .exit)) (now (labels .entry)) (now (labels .exit)) n ⌝ }
 {
     let rows = to - from;
@@ -81,18 +79,19 @@ fn take_turns(
 ) -> Found
     requires { ⌜ Sheet w h r p × (w ≤ maxLabel) × (h ≤ maxLabel) × (3 * p ≤ length (now work)) × (now labels ≡ replicate (w * h) 0)
         × T (isElement element) × T (isClean w h (now work)) ⌝ }
-    ensures { λ f. ⌜ Took w h p (offsets element) (imageSet w h (now (work .entry))) (f .turns) (now (work .entry)) (now (work .exit)) (now (labels .exit)) (f .points) ⌝ }
+    ensures { λ f. ⌜ Took w h p (offsets element) (imageSet w h (now (work .entry))) (f .turns)
+        (now (work .entry)) (now (work .exit)) (now (labels .exit)) (f .points) ⌝ }
 {
     let mut points: u32 = 0;
     let mut n: u32 = 0;
-    let mut from = bands::first_row(&work[..p], r, 0, h);
-    let mut to = bands::end_row(&work[..p], r, from, h);
+    let mut from = raster::bands::first_row(&work[..p], r, 0, h);
+    let mut to = raster::bands::end_row(&work[..p], r, from, h);
     while from < to {
         let new = turn_band(w, h, r, from, to, element, (n + 1) as u8, labels, work);
         points = points + new;
         n = n + 1;
-        from = bands::first_row(&work[..p], r, from, to);
-        to = bands::end_row(&work[..p], r, from, to);
+        from = raster::bands::first_row(&work[..p], r, from, to);
+        to = raster::bands::end_row(&work[..p], r, from, to);
     }
     Found { points, turns: n }
 }

@@ -1,12 +1,11 @@
 -- Erosions and dilations in the first plane of work, one after the other.
-use mathlib.Core.Bool.{Bool, _||_, false, not, true}
+use mathlib.Core.Bool.{Bool, false, not}
 use mathlib.Core.List.{List, [], _++_, _∷_}
-use mathlib.Core.Path.{_∙_, _≡_, ap, ap₂, refl, subst, sym}
+use mathlib.Core.Path.{_∙_, _≡_, ap, ap₂, refl, sym}
 use Prim.Native.Nat.{_*_, _+_, _/_, _<_, _^_, _≤_, suc, zero, ℕ}
 use native.Mathlib.Nat.{le-refl, min-le-left, mul-le-mul-right}
 use native.Mathlib.Numerals.{add-one}
 use native.Mathlib.Omega.{arith}
-use borrow.Author.Tests.{eqb-true}
 use lib.Dec.{T, eqb}
 use lib.ListN.{List·getD-append, drop, getD, length, length-append, length-drop, length-take, replicate, take}
 use lib.Seq.{drop-at, drop-drop, getD-take, length-take-le, take-at}
@@ -26,6 +25,7 @@ use Rattle.morphology.proofs.PlaneLaws.{Empty, area-pack, empty-pack, pack-empt
 use Rattle.morphology.proofs.TestLaws.{and-r}
 use Rattle.planes.proofs.PlaneLaws.{frame-bytes}
 use Rattle.raster.specs.Rows.{overwrite}
+use Rattle.raster.proofs.BandLaws.{zeros-out}
 use Rattle.raster.proofs.PartLaws.{drop-overwrite}
 use Rattle.iteration.specs.Steps.{First, HandedOut, Ready, Sheet, Wrote, dilated}
 
@@ -86,7 +86,8 @@ step-done W H p S old v new q h ev en =
     record {
       size = ap length e ∙ length-append E (E ++ C) ∙ ap (λ (n : ℕ). length E + n) (length-append E C) ∙ omega (arith, size, length-drop (p + p) old);
       first = ap (take p) e ∙ take-at E (E ++ C) p size;
-      rest = ap₂ drop z e ∙ sym (drop-drop p p (E ++ (E ++ C))) ∙ ap (drop p) (drop-at E (E ++ C) p size) ∙ drop-at E C p size ∙ ap (λ (n : ℕ). drop n old) (sym z);
+      rest = ap₂ drop z e ∙ sym (drop-drop p p (E ++ (E ++ C))) ∙ ap (drop p) (drop-at E (E ++ C) p size) ∙ drop-at E C p size
+          ∙ ap (λ (n : ℕ). drop n old) (sym z);
     }
 
 -- another set in the first plane, after one before
@@ -98,14 +99,6 @@ pub first-as : {W H p : ℕ} {S R : Point → Bool} {w u : List ℕ} → pack W 
 first-as e a = record { size = a .size; first = a .first ∙ e; rest = a .rest }
 
 -- ---- bytes of 0
-
-pub zeros-out : (l : List ℕ) → someOf (λ b. not (eqb b 0)) l ≡ false → l ≡ replicate (length l) 0
-zeros-out [] e = refl
-zeros-out (b ∷ l) e = by (zeros-out l) (eqb b 0) refl
-  where
-    by : (someOf (λ b. not (eqb b 0)) l ≡ false → l ≡ replicate (length l) 0) → (t : Bool) → eqb b 0 ≡ t → b ∷ l ≡ 0 ∷ replicate (length l) 0
-    by f true q = ap₂ (λ (x : ℕ) (y : List ℕ). x ∷ y) (eqb-true b 0 q) (f (sym (ap (λ (t : Bool). not t || someOf (λ b. not (eqb b 0)) l) q) ∙ e))
-    by f false q = absurd (subst T (sym (ap (λ (t : Bool). not t || someOf (λ b. not (eqb b 0)) l) q) ∙ e) tt)
 
 -- a first plane without a 1
 pub first-zeros : {W H p : ℕ} {S : Point → Bool} {w u : List ℕ} → p ≡ planeBytes W H → p ≤ length u → First W H p S w u
@@ -153,13 +146,15 @@ pub dilated-more : (W H p : ℕ) (B : List Point) (i : ℕ) (X : Point → Bool)
     → First W H p (dilated W H B i X) w u → First W H p (clip W H (dilate B (imageSet W H u))) u v → First W H p (dilated W H B (i + 1) X) w v
 unfolding dilated
 dilated-more W H p B i X w u v q on a b =
-    first-next a (first-as (ap (λ (Z : Point → Bool). pack W H (clip W H (dilate B Z))) (first-image q (dilated-on W H B i X on) a) ∙ ap (λ (k : ℕ). pack W H (dilated W H B k X)) (sym (add-one i))) b)
+    first-next a (first-as (ap (λ (Z : Point → Bool). pack W H (clip W H (dilate B Z))) (first-image q (dilated-on W H B i X on) a)
+    ∙ ap (λ (k : ℕ). pack W H (dilated W H B k X)) (sym (add-one i))) b)
 
 -- of nothing nothing
 pub dilated-empty : (W H : ℕ) (B : List Point) (n : ℕ) (X : Point → Bool) → Empty X → Empty (dilated W H B n X)
 unfolding dilated clip
 dilated-empty W H B zero X f z t = f z t
-dilated-empty W H B (suc n) X f z t = dilate-empty B (dilated W H B n X) (dilated-empty W H B n X f) z (and-r (onFrame W H z) (dilate B (dilated W H B n X) z) t)
+dilated-empty W H B (suc n) X f z t =
+    dilate-empty B (dilated W H B n X) (dilated-empty W H B n X f) z (and-r (onFrame W H z) (dilate B (dilated W H B n X) z) t)
 
 pub dilated-rest : (W H p : ℕ) (B : List Point) (n : ℕ) (X : Point → Bool) (w u : List ℕ) → p ≡ planeBytes W H → OnFrame W H X → p ≤ length u
     → First W H p X w u → someOf (λ b. not (eqb b 0)) (take p u) ≡ false → First W H p (dilated W H B n X) w u
@@ -184,7 +179,8 @@ unfolding opening
 opened-first W H p e n el X w u v q on a b =
     let B = offsets e in
     let Y = erode (times B n) X in
-    first-next a (first-as (ap (pack W H) (ap (dilated W H B n) (first-image q (eroded-on W H B (element e el) X on n) a) ∙ dilated-is W H B Y n (opened-on W H B (element e el) X on n))) b)
+    first-next a (first-as (ap (pack W H) (ap (dilated W H B n) (first-image q (eroded-on W H B (element e el) X on n) a)
+    ∙ dilated-is W H B Y n (opened-on W H B (element e el) X on n))) b)
 
 -- ---- in and out
 
@@ -218,7 +214,8 @@ pub three-cleared : (n : ℕ) (old ys : List ℕ) → ys ≡ replicate (length (
 three-cleared n old ys e h = ap (λ (l : List ℕ). l ++ drop n old) (e ∙ ap (λ (k : ℕ). replicate k 0) (length-take-le n old h))
 
 -- work as it is left: cleared, and as it was before an image was copied in
-pub rest-cleared : (W H p : ℕ) (image work ys u : List ℕ) → p ≡ planeBytes W H → length image ≡ p → ys ≡ image → drop (3 * p) u ≡ drop (3 * p) (ys ++ drop p work)
+pub rest-cleared : (W H p : ℕ) (image work ys u : List ℕ) → p ≡ planeBytes W H → length image ≡ p → ys ≡ image
+    → drop (3 * p) u ≡ drop (3 * p) (ys ++ drop p work)
     → replicate (3 * p) 0 ++ drop (3 * p) u ≡ cleared W H work
 unfolding cleared
 rest-cleared W H p image work ys u q hi ey m =
@@ -234,7 +231,8 @@ pub wrote : (W H p n : ℕ) (X : Point → Bool) (image work ys u out work′ : 
 wrote W H p n X image work ys u out work′ q on hi ey m h =
     let d : 3 * p ≡ 2 * p + p = omega arith in
     let rest : drop (3 * p) u ≡ drop (3 * p) (ys ++ drop p work) =
-    ap (λ (k : ℕ). drop k u) d ∙ sym (drop-drop p (2 * p) u) ∙ ap (drop p) (m .rest) ∙ drop-drop p (2 * p) (ys ++ drop p work) ∙ ap (λ (k : ℕ). drop k (ys ++ drop p work)) (sym d) in
+    ap (λ (k : ℕ). drop k u) d ∙ sym (drop-drop p (2 * p) u) ∙ ap (drop p) (m .rest) ∙ drop-drop p (2 * p) (ys ++ drop p work)
+    ∙ ap (λ (k : ℕ). drop k (ys ++ drop p work)) (sym d) in
     record {
       answer = h .answer ∙ ap onesOf (m .first) ∙ sym (area-pack W H X on);
       image = h .image ∙ m .first;

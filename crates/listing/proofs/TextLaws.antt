@@ -80,7 +80,13 @@ spaced-le : (xs ys : List (List ℕ)) → length (spaced xs) ≤ length (spaced 
 unfolding spaced
 spaced-le [] ys = omega arith
 spaced-le (x ∷ xs) ys =
-    omega (arith, ap (λ (s : List ℕ). length (x ++ s)) (after-append xs ys), length-append x (after xs), length-append x (after xs ++ after ys), length-append (after xs) (after ys))
+    omega (
+      arith,
+      ap (λ (s : List ℕ). length (x ++ s)) (after-append xs ys),
+      length-append x (after xs),
+      length-append x (after xs ++ after ys),
+      length-append (after xs) (after ys),
+    )
 
 -- ---- a line, label by label
 
@@ -100,7 +106,12 @@ pub line-le : (row : List ℕ) (i : ℕ) → length (spaced (take i (words row))
 unfolding line
 line-le row i =
     let ws = words row in
-    omega (arith, spaced-le (take i ws) (drop i ws), ap (λ (l : List (List ℕ)). length (spaced l)) (take-append-drop i ws), length-append (spaced ws) (lineFeed ∷ []))
+    omega (
+      arith,
+      spaced-le (take i ws) (drop i ws),
+      ap (λ (l : List (List ℕ)). length (spaced l)) (take-append-drop i ws),
+      length-append (spaced ws) (lineFeed ∷ []),
+    )
 
 pub line-end : (row : List ℕ) (i : ℕ) → length row ≤ i → line (words row) ≡ spaced (take i (words row)) ++ (lineFeed ∷ [])
 unfolding line

@@ -1,61 +1,27 @@
 -- The counters of a plane's pixels, row by row.
-use mathlib.Core.Bool.{Bool, false, not}
+use mathlib.Core.Bool.{Bool}
 use mathlib.Core.List.{List}
 use mathlib.Core.Path.{_∙_, _≡_, ap, fun-ext, subst, sym}
-use Prim.Native.Nat.{_*_, _+_, _-_, _<_, _≤_, suc, ℕ}
+use Prim.Native.Nat.{_*_, _+_, _-_, _<_, _≤_, ℕ}
 use native.Mathlib.Decide.{decLt}
 use native.Mathlib.Nat.{mul-comm, mul-le-mul-right, suc-mul}
 use native.Mathlib.Numerals.{add-one}
 use native.Mathlib.Omega.{arith}
-use lib.Dec.{eqb}
-use lib.ListN.{drop, getD, getD-replicate, length, length-drop, take}
-use lib.Seq.{getD-drop, getD-take, length-take-le}
+use lib.ListN.{getD, length}
 use Rattle.morphology.specs.Image.{stride}
-use Rattle.morphology.specs.Lists.{someOf}
 use Rattle.raster.specs.Limits.{maxFrame, maxStride}
 use Rattle.raster.specs.Rows.{rowBit}
 use Rattle.raster.proofs.RowLaws.{row-in}
-use Rattle.iteration.proofs.StepLaws.{zeros-out}
 use Rattle.minimal.specs.Bands.{Banded, Blank, Margins, Strip, inkAt}
 use Rattle.minimal.specs.declared.bands.Band.{Band}
 use Rattle.minimal.specs.Moves.{Moved, Open, Twice, Within, below, hits}
 use Rattle.minimal.proofs.MoveLaws.{moved-end, moved-more, moved-none, none-below, open-part, twice-more, twice-none, twice-part, within-part}
 use Rattle.minimal.proofs.PixelLaws.{ink-above, ink-band, row-ink, row-padded}
 
--- ---- blank rows
-
--- a row of k = r bytes without a 1
-pub blank-row : (s : List ℕ) (d r k : ℕ) → k ≡ r → d + r ≤ length s → someOf (λ b. not (eqb b 0)) (take k (drop d s)) ≡ false → Blank d (d + r) s
-blank-row s d r k e h z j lo hi =
-    let l : d + (j - d) ≡ j = omega arith in
-    let t : j - d < k = omega arith in
-    let n : length (take k (drop d s)) ≡ k = length-take-le k (drop d s) (omega (arith, length-drop d s)) in
-    ap (λ (x : ℕ). getD s x 0) (sym l) ∙ sym (getD-take k (drop d s) (j - d) 0 t ∙ getD-drop d s (j - d) 0)
-    ∙ ap (λ (x : List ℕ). getD x (j - d) 0) (zeros-out (take k (drop d s)) z) ∙ getD-replicate (length (take k (drop d s))) (j - d) 0 0 (omega (arith, n))
-
-blank-both : (a e i : ℕ) (s : List ℕ) → Blank a e s → Blank e i s → Blank a i s
-blank-both a e i s p q d lo hi = by (decLt d e)
-  where
-    by : Dec (d < e) → getD s d 0 ≡ 0
-    by (yes h) = p d lo h
-    by (no h) = q d (omega arith) hi
+-- ---- blank bytes of a row, and of each row
 
 pub blank-none : (a : ℕ) (s : List ℕ) → Blank a a s
 blank-none a s d lo hi = absurd (omega arith)
-
-pub blank-down : (y r : ℕ) (s : List ℕ) → Blank 0 (y * r) s → Blank (y * r) (y * r + r) s → Blank 0 ((y + 1) * r) s
-blank-down y r s p q =
-    let e : y * r + r ≡ (y + 1) * r = sym (ap (λ (n : ℕ). n * r) (add-one y) ∙ suc-mul y r) in
-    blank-both 0 (y * r) ((y + 1) * r) s p (subst (λ (n : ℕ). Blank (y * r) n s) e q)
-
-pub blank-up : (h y r : ℕ) (s : List ℕ) → y < h → Blank ((h - y) * r) (h * r) s → Blank ((h - 1 - y) * r) ((h - 1 - y) * r + r) s → Blank ((h - (y + 1)) * r) (h * r) s
-blank-up h y r s l p q =
-    let d : suc (h - 1 - y) ≡ h - y = omega arith in
-    let g : h - 1 - y ≡ h - (y + 1) = omega arith in
-    let e : (h - 1 - y) * r + r ≡ (h - y) * r = sym (suc-mul (h - 1 - y) r) ∙ ap (λ (n : ℕ). n * r) d in
-    subst (λ (n : ℕ). Blank (n * r) (h * r) s) g (blank-both ((h - 1 - y) * r) ((h - y) * r) (h * r) s (subst (λ (n : ℕ). Blank ((h - 1 - y) * r) n s) e q) p)
-
--- ---- blank bytes of a row, and of each row
 
 pub blank-more : (a e f : ℕ) (s : List ℕ) → f ≡ e + 1 → Blank a e s → getD s e 0 ≡ 0 → Blank a f s
 blank-more a e f s l p q d lo hi = by (decLt d e)
@@ -132,7 +98,8 @@ module _ (W H r : ℕ) (g : Band) (s : List ℕ) (b : Banded W H r g s) where
     pub band-start : (up : Bool) (c : List ℕ) → Moved up (hits (below (g .above * W) (inkAt W H s)) i a) c c
     band-start up c = moved-none up (below (g .above * W) (inkAt W H s)) i a c (none-below (g .above * W) (inkAt W H s) (λ k l. ink-above W H r g s b k l))
 
-    pub band-open : (up : Bool) (y : ℕ) (c u : List ℕ) → y < H - g .under → Open up (below (W * H) (inkAt W H s)) i a c → Moved up (hits (below (y * W) (inkAt W H s)) i a) c u
+    pub band-open : (up : Bool) (y : ℕ) (c u : List ℕ) → y < H - g .under → Open up (below (W * H) (inkAt W H s)) i a c
+        → Moved up (hits (below (y * W) (inkAt W H s)) i a) c u
         → Open up (below (8 * r) (rowOf y)) (i + y * W) a u
     band-open up y c u h w p =
         subst (λ (f : ℕ → Bool). Open up f (i + y * W) a u) (padded y h)
@@ -142,7 +109,8 @@ module _ (W H r : ℕ) (g : Band) (s : List ℕ) (b : Banded W H r g s) where
         → Moved up (hits (below (8 * r) (rowOf y)) (i + y * W) a) u v → Moved up (hits (below ((y + 1) * W) (inkAt W H s)) i a) c v
     band-more up y c u v h p q =
         moved-end up (inkAt W H s) i a (y * W + W) ((y + 1) * W) c v (next-row y)
-        (moved-more (inkAt W H s) (rowOf y) i (y * W) W a (of-row y h) up c u v p (subst (λ (f : ℕ → Bool). Moved up (hits f (i + y * W) a) u v) (sym (padded y h)) q))
+        (moved-more (inkAt W H s) (rowOf y) i (y * W) W a (of-row y h) up c u v p
+        (subst (λ (f : ℕ → Bool). Moved up (hits f (i + y * W) a) u v) (sym (padded y h)) q))
 
     pub band-last : (up : Bool) (y : ℕ) (c u : List ℕ) → y ≡ H - g .under → Moved up (hits (below (y * W) (inkAt W H s)) i a) c u
         → Moved up (hits (below (W * H) (inkAt W H s)) i a) c u
@@ -155,7 +123,8 @@ module _ (W H r : ℕ) (g : Band) (s : List ℕ) (b : Banded W H r g s) where
       pub band-twice-start : Twice (below (g .above * W) (inkAt W H s)) i a c
       band-twice-start = twice-none (below (g .above * W) (inkAt W H s)) i a c (none-below (g .above * W) (inkAt W H s) (λ k l. ink-above W H r g s b k l))
 
-      pub band-within : (y : ℕ) → y < H - g .under → Within (below (W * H) (inkAt W H s)) i a (length c) → Within (below (8 * r) (rowOf y)) (i + y * W) a (length c)
+      pub band-within : (y : ℕ) → y < H - g .under → Within (below (W * H) (inkAt W H s)) i a (length c)
+          → Within (below (8 * r) (rowOf y)) (i + y * W) a (length c)
       band-within y h w =
           subst (λ (f : ℕ → Bool). Within f (i + y * W) a (length c)) (padded y h)
           (within-part (inkAt W H s) (rowOf y) i (y * W) W a (of-row y h) (W * H) (length c) (in-frame y h) w)

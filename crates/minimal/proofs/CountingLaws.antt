@@ -63,7 +63,8 @@ module _ (m : List ℕ) (n i : ℕ) where
           ap (λ (b : Bool). leb (getD m j 0) n || (b && ltb j (i + 1))) e ∙ sym (ap (λ (b : Bool). leb (getD m j 0) n || (b && ltb j i)) e)
 
   before-now : getD m i 0 ≡ n + 1 → before m n i i ≡ false
-  before-now q = ap₂ (λ (a b : Bool). a || (eqb (getD m i 0) (n + 1) && b)) (lt-leb (getD m i 0) n (omega arith)) (le-ltb i i (omega arith)) ∙ off (eqb (getD m i 0) (n + 1))
+  before-now q = ap₂ (λ (a b : Bool). a || (eqb (getD m i 0) (n + 1) && b)) (lt-leb (getD m i 0) n (omega arith)) (le-ltb i i (omega arith))
+      ∙ off (eqb (getD m i 0) (n + 1))
     where
       off : (b : Bool) → (false || (b && false)) ≡ false
       off true = refl
@@ -103,7 +104,8 @@ module _ (W H : ℕ) (B : List Point) (m : List ℕ) where
   cover-none : (z : Point) → coverTo W H B m 0 0 z ≡ 0
   unfolding coverTo
   cover-none z = count-none (λ j. before m 0 0 j && covers W B m z j) (upTo (W * H)) (λ j k t.
-      by j (and-r (before m 0 0 j) (covers W B m z j) t) (or-out (leb (getD m j 0) 0) (eqb (getD m j 0) 1 && ltb j 0) (and-l (before m 0 0 j) (covers W B m z j) t)))
+      by j (and-r (before m 0 0 j) (covers W B m z j) t)
+      (or-out (leb (getD m j 0) 0) (eqb (getD m j 0) 1 && ltb j 0) (and-l (before m 0 0 j) (covers W B m z j) t)))
     where
       by : (j : ℕ) → T (covers W B m z j) → T (leb (getD m j 0) 0) ⊎ T (eqb (getD m j 0) 1 && ltb j 0) → ⊥
       by j c (inl t) = subst T (covers-none W H B m j z (omega (arith, leb→le (getD m j 0) 0 t))) c
@@ -148,13 +150,15 @@ module _ (W H : ℕ) (B : List Point) (m : List ℕ) where
   cover-gap n i zero f z = ap (λ (k : ℕ). coverTo W H B m n k z) (sym (add-zero i))
   cover-gap n i (suc d) f z =
       let e : i + d + 1 ≡ i + suc d = omega arith in
-      cover-gap n i d (λ j lo hi. f j lo (omega arith)) z ∙ sym (cover-skip n (i + d) (f (i + d) (omega arith) (omega arith)) z) ∙ ap (λ (k : ℕ). coverTo W H B m n k z) e
+      cover-gap n i d (λ j lo hi. f j lo (omega arith)) z ∙ sym (cover-skip n (i + d) (f (i + d) (omega arith) (omega arith)) z)
+      ∙ ap (λ (k : ℕ). coverTo W H B m n k z) e
 
   cover-all : (n : ℕ) → greatest m ≤ n → (z : Point) → coverTo W H B m n 0 z ≡ cover W H B m z
   unfolding coverTo cover
   cover-all n h z =
       ap (λ (p : ℕ → Bool). countOf p (upTo (W * H)))
-      (fun-ext (λ j. ap (λ (b : Bool). (b || (eqb (getD m j 0) (n + 1) && ltb j 0)) && covers W B m z j) (le-leb (getD m j 0) n (omega (arith, getD-greatest m j)))))
+      (fun-ext (λ j. ap (λ (b : Bool). (b || (eqb (getD m j 0) (n + 1) && ltb j 0)) && covers W B m z j)
+      (le-leb (getD m j 0) n (omega (arith, getD-greatest m j)))))
 
   cover-few : (n i : ℕ) (z : Point) → coverTo W H B m n i z ≤ W * H
   unfolding coverTo
@@ -193,14 +197,16 @@ module _ (W H : ℕ) (B : List Point) (m : List ℕ) where
       -- a point of the size: its counters can take one
       pub counting-open : getD m i 0 ≡ n + 1 → Open true (below (W * H) (inkAt W H (take p work))) i a c
       counting-open e = record {
-        within = subst (λ (k : ℕ). (j : ℕ) → T (below (W * H) (inkAt W H (take p work)) j) → (a ≤ i + j) × (i + j < a + k)) (sym counting-length) (shape-within W H r p B n a work s i (stays e));
+        within = subst (λ (k : ℕ). (j : ℕ) → T (below (W * H) (inkAt W H (take p work)) j) → (a ≤ i + j) × (i + j < a + k)) (sym counting-length)
+            (shape-within W H r p B n a work s i (stays e));
         free = λ k u.
             let w = shape-within W H r p B n a work s i (stays e) k u in
             let l : i + k - a < W * H = omega (arith, w .0, w .1) in
             omega (arith, counting-at (i + k - a) l, cover-few n i (place W (i + k - a)), t .few);
       }
 
-      pub counting-next : (c′ : List ℕ) → Moved true (λ x. eqb (getD m i 0) (n + 1) && hits (below (W * H) (inkAt W H (take p work))) i a x) c c′ → Counting W H B m n (i + 1) c′
+      pub counting-next : (c′ : List ℕ) → Moved true (λ x. eqb (getD m i 0) (n + 1) && hits (below (W * H) (inkAt W H (take p work))) i a x) c c′
+          → Counting W H B m n (i + 1) c′
       counting-next c′ v =
           ext-getD 0 c′ (raster W H (coverTo W H B m n (i + 1))) (v .size ∙ counting-length ∙ sym (length-raster W H (coverTo W H B m n (i + 1)))) (λ x l.
           let lc : x < length c = subst (λ (k : ℕ). x < k) (v .size) l in
@@ -210,11 +216,14 @@ module _ (W H : ℕ) (B : List Point) (m : List ℕ) where
           f : ℕ → Bool
           f = below (W * H) (inkAt W H (take p work))
 
-          by : (x : ℕ) → x < W * H → Dec (getD m i 0 ≡ n + 1) → getD c x 0 + digit (eqb (getD m i 0) (n + 1) && hits f i a x) ≡ coverTo W H B m n (i + 1) (place W x)
+          by : (x : ℕ) → x < W * H → Dec (getD m i 0 ≡ n + 1)
+              → getD c x 0 + digit (eqb (getD m i 0) (n + 1) && hits f i a x) ≡ coverTo W H B m n (i + 1) (place W x)
           by x hx (yes e) =
               ap₂ (λ (k : ℕ) (b : Bool). k + digit (b && hits f i a x)) (counting-at x hx) (eq-eqb (getD m i 0) (n + 1) e)
-              ∙ ap (λ (b : Bool). coverTo W H B m n i (place W x) + digit b) (shape-hits W H r p B n a work s i x (stays e) ∙ sym (covers-dilate W H B m i n (place W x) (e ∙ add-one n)))
+              ∙ ap (λ (b : Bool). coverTo W H B m n i (place W x) + digit b)
+              (shape-hits W H r p B n a work s i x (stays e) ∙ sym (covers-dilate W H B m i n (place W x) (e ∙ add-one n)))
               ∙ sym (cover-next n i h e (place W x))
           by x hx (no e) =
               let z : getD c x 0 + 0 ≡ getD c x 0 = omega arith in
-              ap (λ (b : Bool). getD c x 0 + digit (b && hits f i a x)) (ne-eqb (getD m i 0) (n + 1) e) ∙ z ∙ counting-at x hx ∙ sym (cover-skip n i e (place W x))
+              ap (λ (b : Bool). getD c x 0 + digit (b && hits f i a x)) (ne-eqb (getD m i 0) (n + 1) e) ∙ z ∙ counting-at x hx
+              ∙ sym (cover-skip n i e (place W x))

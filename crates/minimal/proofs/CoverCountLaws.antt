@@ -161,8 +161,10 @@ module _ (W H : ℕ) (B : List Point) where
       → isRedundant W H B n m i ≡ everyOf (λ b. leb 2 (cover W H B m (place W i ⊞ b))) (times B n)
   unfolding isRedundant
   redundant-count m i n h q = T-ext
-      (λ t. all-in (λ b. leb 2 (cover W H B m (place W i ⊞ b))) (times B n) (λ b k. subst T (same b k) (all-out (λ b. someOf (other W B m i (place W i ⊞ b)) (upTo (W * H))) t k)))
-      (λ t. all-in (λ b. someOf (other W B m i (place W i ⊞ b)) (upTo (W * H))) (times B n) (λ b k. subst T (sym (same b k)) (all-out (λ b. leb 2 (cover W H B m (place W i ⊞ b))) t k)))
+      (λ t. all-in (λ b. leb 2 (cover W H B m (place W i ⊞ b))) (times B n)
+      (λ b k. subst T (same b k) (all-out (λ b. someOf (other W B m i (place W i ⊞ b)) (upTo (W * H))) t k)))
+      (λ t. all-in (λ b. someOf (other W B m i (place W i ⊞ b)) (upTo (W * H))) (times B n)
+      (λ b k. subst T (sym (same b k)) (all-out (λ b. leb 2 (cover W H B m (place W i ⊞ b))) t k)))
     where
       same : (b : Point) → List·Memᴰ b (times B n) → someOf (other W B m i (place W i ⊞ b)) (upTo (W * H)) ≡ leb 2 (cover W H B m (place W i ⊞ b))
       same b k = other-count m i (place W i ⊞ b) h (covers-own m i n q k)
@@ -185,7 +187,10 @@ module _ (W H : ℕ) (B : List Point) where
   pub frame-place : (z : Point) → T (onFrame W H z) → (x : ℕ) × (x < W * H) × (z ≡ place W x)
   unfolding places
   frame-place z t =
-      let on : OnFrame W H (onFrame W H) = record { across = λ p u. and-l (inside W (p .x)) (inside H (p .y)) u; down = λ p u. and-r (inside W (p .x)) (inside H (p .y)) u } in
+      let on : OnFrame W H (onFrame W H) = record {
+        across = λ p u. and-l (inside W (p .x)) (inside H (p .y)) u;
+        down = λ p u. and-r (inside W (p .x)) (inside H (p .y)) u;
+      } in
       let r = row-mem (place W) 0 (W * H) (on-places W H (onFrame W H) on z t) in
       (r .0, r .1, r .2 ∙ ap (place W) (zero-add (r .0)))
 
@@ -225,7 +230,8 @@ module _ (W H : ℕ) (B : List Point) where
           by x l w (inr u) = subst (λ (y : Point). T (leb 2 (cover W H B m y))) w (subst T (two-is x l) u)
           by x l w (inl u) =
               absurd (T-not (D x) u
-              (subst (λ (y : Point). T (spread W B n i y)) (sym w) (dilate-in (times B n) (λ y. samePoint y (place W i)) (place W i) b (same-refl (place W i)) k)))
+              (subst (λ (y : Point). T (spread W B n i y)) (sym w) (dilate-in (times B n) (λ y. samePoint y (place W i)) (place W i) b (same-refl (place W i))
+              k)))
 
   -- the counters after a drop
   pub counters-drop : (m : List ℕ) (i n x : ℕ) → i < W * H → x < W * H → getD m i 0 ≡ suc n
@@ -267,7 +273,8 @@ module _ (W H : ℕ) (B : List Point) where
   sizes-row s zero m = ap (λ (n : ℕ). dropSize W H B n (upTo (W * H)) m) (sym (add-zero s))
   sizes-row s (suc k) m =
       let m′ = dropSize W H B s (upTo (W * H)) m in
-      sizes-row (suc s) k m′ ∙ ap (λ (n : ℕ). dropSize W H B n (upTo (W * H)) (dropSizes W H B (tabulate (λ j. j) (suc s) k) m′)) (suc-add s k ∙ sym (add-suc s k))
+      sizes-row (suc s) k m′ ∙ ap (λ (n : ℕ). dropSize W H B n (upTo (W * H)) (dropSizes W H B (tabulate (λ j. j) (suc s) k) m′))
+      (suc-add s k ∙ sym (add-suc s k))
 
   -- one size more
   pub minimal-turn : (n : ℕ) (m : List ℕ) → minimalBelow (suc n) W H B m ≡ dropSize W H B n (upTo (W * H)) (minimalBelow n W H B m)

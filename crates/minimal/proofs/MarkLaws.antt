@@ -29,7 +29,8 @@ bit-at j k = eqb (128 / 2 ^ k / 2 ^ (8 - suc j) % 2) (cond (eqb j k) 1 0)
 pixel-bit : (j k : ℕ) → j < 8 → k < 8 → eqb j k ≡ eqb (128 / 2 ^ k / 2 ^ (8 - suc j) % 2) 1
 unfolding bit-at
 pixel-bit j k hj hk =
-    by (eqb j k) ∙ ap (λ (n : ℕ). eqb n 1) (sym (eqb→eq (128 / 2 ^ k / 2 ^ (8 - suc j) % 2) (cond (eqb j k) 1 0) (upto-out (λ j. bit-at j k) 8 j hj (upto-out (λ k. upto (λ j. bit-at j k) 8) 8 k hk tt))))
+    by (eqb j k) ∙ ap (λ (n : ℕ). eqb n 1) (sym (eqb→eq (128 / 2 ^ k / 2 ^ (8 - suc j) % 2) (cond (eqb j k) 1 0)
+    (upto-out (λ j. bit-at j k) 8 j hj (upto-out (λ k. upto (λ j. bit-at j k) 8) 8 k hk tt))))
   where
     by : (b : Bool) → b ≡ eqb (cond b 1 0) 1
     by true = refl
@@ -44,7 +45,8 @@ single-at W a u v = refl
 
 -- ---- an empty first plane
 
-pub emptied : (p : ℕ) (work ys : List ℕ) → p ≤ length work → ys ≡ replicate (length (take p work)) 0 → (ys ≡ replicate p 0) × (length (ys ++ drop p work) ≡ length work)
+pub emptied : (p : ℕ) (work ys : List ℕ) → p ≤ length work → ys ≡ replicate (length (take p work)) 0 → (ys ≡ replicate p 0)
+    × (length (ys ++ drop p work) ≡ length work)
 emptied p work ys h e =
     let z : ys ≡ replicate p 0 = e ∙ ap (λ (n : ℕ). replicate n 0) (length-take-le p work h) in
     let l : length ys ≡ p = ap length z ∙ length-replicate {A = ℕ} p 0 in
@@ -86,8 +88,10 @@ module _ (W H a : ℕ) (hw : 1 ≤ W) (ha : a < W * H) where
           let x : i % stride W ≡ a % W / 8 = ap (λ (n : ℕ). n % stride W) e ∙ digits-mod (a / W) column in
           bits-of mark 8 b (i % stride W * 8) (byte-small (a % W % 8)) (λ j l.
           single-at W a (i % stride W * 8 + j) (i / stride W)
-          ∙ ap₂ (λ (u v : Bool). u && v) (column-is j l x) (eq-eqb (i / stride W) (a / W) y) ∙ true-right (eqb j (a % W % 8)) ∙ pixel-bit j (a % W % 8) l (omega arith))
-          ∙ sym (ap (λ (n : ℕ). getD (set zeros markAt mark) n 0) e ∙ getD-set-same zeros markAt mark 0 (subst (λ (n : ℕ). markAt < n) (sym (length-replicate {A = ℕ} (planeBytes W H) 0)) mark-inside))
+          ∙ ap₂ (λ (u v : Bool). u && v) (column-is j l x) (eq-eqb (i / stride W) (a / W) y) ∙ true-right (eqb j (a % W % 8))
+          ∙ pixel-bit j (a % W % 8) l (omega arith))
+          ∙ sym (ap (λ (n : ℕ). getD (set zeros markAt mark) n 0) e ∙ getD-set-same zeros markAt mark 0
+          (subst (λ (n : ℕ). markAt < n) (sym (length-replicate {A = ℕ} (planeBytes W H) 0)) mark-inside))
         where
           true-right : (t : Bool) → (t && true) ≡ t
           true-right true = refl
@@ -124,7 +128,8 @@ module _ (W H a : ℕ) (hw : 1 ≤ W) (ha : a < W * H) where
       (subst (λ (n : ℕ). d < n) (sym q) (subst (λ (n : ℕ). n < planeBytes W H) (sym t) mark-inside), t)
 
   -- the first plane of work, emptied and marked
-  pub mark-first : (p d v : ℕ) (work ys : List ℕ) → p ≡ planeBytes W H → p ≤ length work → ys ≡ replicate (length (take p work)) 0 → d ≡ a / W * stride W + a % W / 8 → v ≡ 128 / 2 ^ (a % W % 8)
+  pub mark-first : (p d v : ℕ) (work ys : List ℕ) → p ≡ planeBytes W H → p ≤ length work → ys ≡ replicate (length (take p work)) 0
+      → d ≡ a / W * stride W + a % W / 8 → v ≡ 128 / 2 ^ (a % W % 8)
       → First W H p (single W a) work (set (ys ++ drop p work) d v)
   mark-first p d v work ys q h e ed ev =
       let k = emptied p work ys h e in

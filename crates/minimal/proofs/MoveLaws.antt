@@ -53,7 +53,8 @@ counted-none true v = omega arith
 counted-none false v = omega arith
 
 pub moved-none : (up : Bool) (f : ℕ → Bool) (at a : ℕ) (c : List ℕ) → ((k : ℕ) → f k ≡ false) → Moved up (hits f at a) c c
-moved-none up f at a c e = record { size = refl; places = λ x l. sym (ap (λ (b : Bool). counted up b (getD c x 0)) (hits-none f at a x e) ∙ counted-none up (getD c x 0)) }
+moved-none up f at a c e =
+    record { size = refl; places = λ x l. sym (ap (λ (b : Bool). counted up b (getD c x 0)) (hits-none f at a x e) ∙ counted-none up (getD c x 0)) }
 
 pub moved-start : (up : Bool) (f : ℕ → Bool) (at a : ℕ) (c : List ℕ) → Moved up (hits (below 0 f) at a) c c
 moved-start up f at a c = moved-none up (below 0 f) at a c (λ k. below-out 0 f k (omega arith))
@@ -100,7 +101,8 @@ pixel-moved up ink at a v c e s q = record { size = length-set c (at - a) v; pla
     by x (yes z) =
         let h : x + a - at ≡ 0 = omega (arith, s .lower) in
         ap (λ (j : ℕ). getD (set c (at - a) v) j 0) z ∙ getD-set-same c (at - a) v 0 (s .inside) ∙ q
-        ∙ ap₂ (λ (b : Bool) (j : ℕ). counted up b (getD c j 0)) (sym (hits-in f at a x (omega (arith, s .lower)) ∙ ap f h ∙ below-in 1 (λ _. ink) 0 (omega arith) ∙ e)) (sym z)
+        ∙ ap₂ (λ (b : Bool) (j : ℕ). counted up b (getD c j 0))
+        (sym (hits-in f at a x (omega (arith, s .lower)) ∙ ap f h ∙ below-in 1 (λ _. ink) 0 (omega arith) ∙ e)) (sym z)
     by x (no z) =
         getD-set-other c (at - a) x v 0 z
         ∙ sym (ap (λ (b : Bool). counted up b (getD c x 0)) (far x z (decLt (x + a) at)) ∙ counted-none up (getD c x 0))
@@ -165,7 +167,8 @@ module _ (F g : ℕ → Bool) (at o m a : ℕ) (e : (k : ℕ) → k < m → g k 
       (omega (arith, r .0), omega (arith, r .1))
 
   -- what is left is as it was
-  pub open-part : (up : Bool) (N : ℕ) (c u : List ℕ) → o + m ≤ N → Open up (below N F) at a c → Moved up (hits (below o F) at a) c u → Open up (below m g) (at + o) a u
+  pub open-part : (up : Bool) (N : ℕ) (c u : List ℕ) → o + m ≤ N → Open up (below N F) at a c → Moved up (hits (below o F) at a) c u
+      → Open up (below m g) (at + o) a u
   open-part up N c u h w p = record {
     within = λ k t. subst (λ (n : ℕ). (a ≤ at + o + k) × (at + o + k < a + n)) (sym (p .size)) (within-part N (length c) h (w .within) k t);
     free = λ k t.

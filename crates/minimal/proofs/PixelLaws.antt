@@ -90,7 +90,8 @@ module _ (W H r : ℕ) (g : Band) (s : List ℕ) (b : Banded W H r g s) where
         hy,
         λ z.
             let e : (8 * (q / W * r) + q % W) / 8 ≡ q / W * r + q % W / 8 = omega arith in
-            subst T (sym (row-image (q / W) (q % W) hy (omega (arith, wide))) ∙ zero-bit (getD s ((8 * (q / W * r) + q % W) / 8) 0) ((8 * (q / W * r) + q % W) % 8) (ap (λ (d : ℕ). getD s d 0) e ∙ z)) t,
+            subst T (sym (row-image (q / W) (q % W) hy (omega (arith, wide)))
+            ∙ zero-bit (getD s ((8 * (q / W * r) + q % W) / 8) 0) ((8 * (q / W * r) + q % W) % 8) (ap (λ (d : ℕ). getD s d 0) e ∙ z)) t,
       )
 
   column : (q : ℕ) → q % W / 8 < r

@@ -55,7 +55,8 @@ greatest-met (b ∷ m) h f = by (decLt b (greatest m)) (λ l. greatest-met m (so
     by (no l) g = f 0 h (omega arith)
     by (yes l) g = g l
 
-pub tallest-place : (m : List ℕ) (v i : ℕ) → 0 < length m → v ≡ greatest m → Without v 0 i m → i ≤ length m → (i < length m → getD m i 0 ≡ v) → (i < length m) × (getD m i 0 ≡ greatest m)
+pub tallest-place : (m : List ℕ) (v i : ℕ) → 0 < length m → v ≡ greatest m → Without v 0 i m → i ≤ length m → (i < length m → getD m i 0 ≡ v) → (i < length m)
+    × (getD m i 0 ≡ greatest m)
 tallest-place m v i h e w l f = by (decLt i (length m))
   where
     by : Dec (i < length m) → (i < length m) × (getD m i 0 ≡ greatest m)

@@ -81,7 +81,8 @@ module _ (W H r p : ℕ) (B : List Point) (n a : ℕ) (work : List ℕ) (s : Sha
           let g = spread-goes W H B n i a si (s .stays) x t in
           let z : g .0 ≡ x + a - i = omega (arith, g .2) in
           let u = subst (λ (X : Point → Bool). T (X (place W (g .0)))) (sym plane-set) (g .3) in
-          and-in (leb i (x + a)) (f (x + a - i)) (le→leb i (x + a) (omega (arith, g .2))) (subst (λ (j : ℕ). T (f j)) z (below-T (W * H) (inkAt W H (take p work)) (g .0) (g .1) u))
+          and-in (leb i (x + a)) (f (x + a - i)) (le→leb i (x + a) (omega (arith, g .2)))
+          (subst (λ (j : ℕ). T (f j)) z (below-T (W * H) (inkAt W H (take p work)) (g .0) (g .1) u))
 
 -- ---- the planes of the sizes: a place of the largest label, dilated
 
@@ -109,7 +110,8 @@ module _ (W H r p e a top : ℕ) (m work : List ℕ) (b : Begun W H r p e a top 
     rest = refl;
   })
 
-  pub begun-shape : (n : ℕ) (w u : List ℕ) → n < top → length w ≡ length work → First W H p (dilated W H (offsets e) n (single W a)) w u → Shape W H r p (offsets e) n a u
+  pub begun-shape : (n : ℕ) (w u : List ℕ) → n < top → length w ≡ length work → First W H p (dilated W H (offsets e) n (single W a)) w u
+      → Shape W H r p (offsets e) n a u
   begun-shape n w u h l f =
       let q = sheet-bytes (b .sheet) in
       let o = dilated-on W H (offsets e) n (single W a) on in
@@ -117,11 +119,13 @@ module _ (W H r p e a top : ℕ) (m work : List ℕ) (b : Begun W H r p e a top 
         sheet = b .sheet;
         planes = omega (arith, b .planes, f .size);
         clean = first-clean q o f;
-        set = first-image q o f ∙ dilated-is W H (offsets e) (single W a) n (λ i k. spread-on W H (offsets e) (element e (b .element) .centred) n a i (begun-stays n h) k);
+        set = first-image q o f ∙ dilated-is W H (offsets e) (single W a) n
+            (λ i k. spread-on W H (offsets e) (element e (b .element) .centred) n a i (begun-stays n h) k);
         stays = begun-stays n h;
       }
 
-  pub begun-next : (n : ℕ) (w u v : List ℕ) → First W H p (dilated W H (offsets e) n (single W a)) w u → First W H p (clip W H (dilate (offsets e) (imageSet W H u))) u v
+  pub begun-next : (n : ℕ) (w u v : List ℕ) → First W H p (dilated W H (offsets e) n (single W a)) w u
+      → First W H p (clip W H (dilate (offsets e) (imageSet W H u))) u v
       → First W H p (dilated W H (offsets e) (n + 1) (single W a)) w v
   begun-next n w u v f g = dilated-more W H p (offsets e) n (single W a) w u v (sheet-bytes (b .sheet)) on f g
 

@@ -62,7 +62,8 @@ module _ (W H : ℕ) (B : List Point) (n a i : ℕ) (sa : Stays W H B n a) (si :
         f .0,
         f .1,
         place-moved W (f .0) i q a (r .1) (sym (f .2)) e,
-        subst (λ (y : Point). T (spread W B n i y)) (f .2) (dilate-in (times B n) (λ y. samePoint y (place W i)) (place W i) (r .1) (same-refl (place W i)) (r .3)),
+        subst (λ (y : Point). T (spread W B n i y)) (f .2)
+            (dilate-in (times B n) (λ y. samePoint y (place W i)) (place W i) (r .1) (same-refl (place W i)) (r .3)),
       )
 
 -- the cover of i is that of a, moved

@@ -117,7 +117,8 @@ module _ (W H r p : ℕ) (B : List Point) (n a : ℕ) (work : List ℕ) (s : Sha
               counters = ext-getD 0 c′ (counts W H B (set m i 0)) (size ∙ sym (counts-length W H B (set m i 0))) (λ x l.
                   let hx : x < W * H = subst (λ (j : ℕ). x < j) size l in
                   at x hx ∙ ap₂ (λ (b z : Bool). getD c x 0 - cond (b && z) 1 0) e (shape-hits W H r p B n a work s i x (stays (y .0)))
-                  ∙ ap (λ (l : List ℕ). getD l x 0 - cond (spread W B n i (place W x)) 1 0) q ∙ sym (counters-drop W H B m i n x h hx v)) ∙ ap (counts W H B) (sym k);
+                  ∙ ap (λ (l : List ℕ). getD l x 0 - cond (spread W B n i (place W x)) 1 0) q ∙ sym (counters-drop W H B m i n x h hx v))
+                  ∙ ap (counts W H B) (sym k);
               size = ap length k ∙ length-set m i 0;
             }
         go false e =

@@ -2,11 +2,12 @@
 use mathlib.Core.Bool.{Bool}
 use mathlib.Core.List.{List}
 use mathlib.Core.Path.{_≡_}
-use Prim.Native.Nat.{_*_, _+_, _-_, _<_, _≤_, ℕ}
+use Prim.Native.Nat.{_*_, _+_, _-_, _<_, _^_, _≤_, ℕ}
 use lib.Dec.{T}
 use lib.ListN.{getD, length}
 use Rattle.morphology.specs.Image.{imageSet, isClean}
 use Rattle.morphology.specs.Labels.{place}
+use Rattle.raster.specs.Limits.{maxStride}
 use Rattle.planes.specs.Frames.{Frame}
 use Rattle.minimal.specs.declared.bands.Band.{Band}
 
@@ -29,6 +30,13 @@ pub record Margins (d r left right : ℕ) (s : List ℕ) : Type 0 where
   pub start : Blank d (d + left) s
   pub end : Blank (d + right) (d + r) s
 
+-- a row of a cover in a plane: r bytes at d, with its margins; its first pixel is moved to at
+pub record CoverRow (d r left right at : ℕ) (s : List ℕ) : Type 0 where
+  pub near : at < 2 ^ 31
+  pub stride : r ≤ maxStride
+  pub bytes : d + r ≤ length s
+  pub margins : Margins d r left right s
+
 -- what is outside of a band is blank
 pub record Bounds (H r : ℕ) (g : Band) (s : List ℕ) : Type 0 where
   pub rows : g .above + g .under ≤ H
@@ -45,3 +53,10 @@ pub record Banded (W H r : ℕ) (g : Band) (s : List ℕ) : Type 0 where
   pub bytes : H * r ≤ length s
   pub clean : T (isClean W H s)
   pub bounds : Bounds H r g s
+
+-- a plane and its band, and a place i of the map m where a point of size n may stand
+pub record CoverAt (W H r : ℕ) (g : Band) (n i : ℕ) (m s : List ℕ) : Type 0 where
+  pub banded : Banded W H r g s
+  pub place : i < length m
+  pub near : i < 2 ^ 30
+  pub size : n < 2 ^ 30

@@ -49,6 +49,13 @@ pub record Left (p : ℕ) (old new : List ℕ) : Type 0 where
 abbrev pub Without : ℕ → ℕ → ℕ → List ℕ → Type 0
 Without v i e m = (j : ℕ) → i ≤ j → j < e → getD m j 0 ≡ v → ⊥
 
+-- i is the first place from `from` on with label v, or the end
+pub record NextPlace (v from : ℕ) (m : List ℕ) (i : ℕ) : Type 0 where
+  pub after : from ≤ i
+  pub within : i ≤ length m
+  pub without : Without v from i m
+  pub label : i < length m → getD m i 0 ≡ v
+
 -- counted before place i of size n: a smaller size, or a place before
 abbrev pub before : List ℕ → ℕ → ℕ → ℕ → Bool
 before m n i j = leb (getD m j 0) n || (eqb (getD m j 0) (n + 1) && ltb j i)

@@ -11,38 +11,6 @@ pub struct Band {
     pub right: usize,
 }
 
-// The blank rows at the top of a plane.
-fn blank_above(plane: &[u8], h: usize, r: usize) -> usize
-    requires { ⌜ h * r ≤ length (now plane) ⌝ }
-    ensures { λ y. ⌜ (y ≤ h) × Blank 0 (y * r) (now (plane .entry)) ⌝ }
-{
-    let mut y: usize = 0;
-    while y < h {
-        let d = y * r;
-        if raster::has_ink(&plane[d..d + r]) {
-            return y;
-        }
-        y = y + 1;
-    }
-    h
-}
-
-// The blank rows at its bottom, below the rows above.
-fn blank_under(plane: &[u8], h: usize, r: usize, above: usize) -> usize
-    requires { ⌜ (h * r ≤ length (now plane)) × (above ≤ h) ⌝ }
-    ensures { λ y. ⌜ (above + y ≤ h) × Blank ((h - y) * r) (h * r) (now (plane .entry)) ⌝ }
-{
-    let mut y: usize = 0;
-    while y < h - above {
-        let d = (h - 1 - y) * r;
-        if raster::has_ink(&plane[d..d + r]) {
-            return y;
-        }
-        y = y + 1;
-    }
-    y
-}
-
 // The blank bytes at the left of the row at d, left at most.
 fn row_left(plane: &[u8], d: usize, left: usize) -> usize
     requires { ⌜ d + left ≤ length (now plane) ⌝ }
@@ -106,10 +74,11 @@ pub fn band_of(plane: &[u8], h: usize, r: usize) -> Band
     requires { ⌜ h * r ≤ length (now plane) ⌝ }
     ensures { λ b. ⌜ Bounds h r b (now (plane .entry)) ⌝ }
 {
-    let above = blank_above(plane, h, r);
-    let under = blank_under(plane, h, r, above);
-    let left = blank_left(plane, r, above, h - under);
-    let right = blank_right(plane, r, above, h - under, left);
+    let above = raster::bands::first_row(plane, r, 0, h);
+    let end = raster::bands::end_row(plane, r, above, h);
+    let under = h - end;
+    let left = blank_left(plane, r, above, end);
+    let right = blank_right(plane, r, above, end, left);
     Band {
         above,
         under,

@@ -2,13 +2,11 @@
 use crate::bands::Band;
 ghost use mathlib.Core.Path.{_≡_};
 ghost use mathlib.Core.Bool.{true};
-ghost use Prim.Native.Nat.{_+_, _*_, _-_, _<_, _≤_, _^_};
-ghost use lib.Dec.{T};
+ghost use Prim.Native.Nat.{_+_, _*_, _-_, _<_, _^_};
 ghost use lib.ListN.{length};
 ghost use Rattle.morphology.specs.Image.{bitOf};
-ghost use Rattle.raster.specs.Limits.{maxStride};
 ghost use Rattle.raster.specs.Rows.{rowBit};
-ghost use Rattle.minimal.specs.Bands.{Banded, Margins, inkAt};
+ghost use Rattle.minimal.specs.Bands.{Banded, CoverRow, inkAt};
 ghost use Rattle.minimal.specs.Moves.{below, hits, Within, counted, Free, Open, Moved, Twice, Tells};
 
 // Whether pixel k of a byte is foreground.
@@ -80,7 +78,7 @@ fn move_row(
     a: usize,
     counters: &mut [u16],
 )
-    requires { ⌜ (at < 2 ^ 31) × (r ≤ maxStride) × (d + r ≤ length (now plane)) × Margins d r left right (now plane)
+    requires { ⌜ CoverRow d r left right at (now plane)
         × Open up (below (8 * r) (λ k. rowBit (now plane) (8 * d + k))) at a (now counters) ⌝ }
     ensures { λ _. ⌜ Moved up (hits (below (8 * r) (λ k. rowBit (now (plane .entry)) (8 * d + k))) at a) (now (counters .entry)) (now (counters .exit)) ⌝ }
 {
@@ -174,7 +172,7 @@ fn row_is_twice(
     a: usize,
     counters: &[u16],
 ) -> bool
-    requires { ⌜ (at < 2 ^ 31) × (r ≤ maxStride) × (d + r ≤ length (now plane)) × Margins d r left right (now plane)
+    requires { ⌜ CoverRow d r left right at (now plane)
         × Within (below (8 * r) (λ k. rowBit (now plane) (8 * d + k))) at a (length (now counters)) ⌝ }
     ensures { λ t. ⌜ Tells t (Twice (below (8 * r) (λ k. rowBit (now (plane .entry)) (8 * d + k))) at a (now (counters .entry))) ⌝ }
 {

@@ -79,7 +79,8 @@ pub fn minimise(
     work: &mut [u8],
     counters: &mut [u16],
 ) -> Minimised
-    ensures { λ r. ⌜ outcome (answerOf r) (now (labels .exit) ∷ now (work .exit) ∷ now (counters .exit) ∷ []) ≡ minimised w h element (now (labels .entry)) (now (work .entry)) (now (counters .entry)) ⌝ }
+    ensures { λ r. ⌜ outcome (answerOf r) (now (labels .exit) ∷ now (work .exit) ∷ now (counters .exit) ∷ [])
+        ≡ minimised w h element (now (labels .entry)) (now (work .entry)) (now (counters .entry)) ⌝ }
 {
     let no = minimise_refusal(w, h, element, &labels[..], &work[..], &counters[..]);
     if no != 0 {

@@ -1,8 +1,7 @@
 // The places of a label, found one after the other.
-ghost use mathlib.Core.Path.{_≡_};
 ghost use Prim.Native.Nat.{_<_, _≤_};
-ghost use lib.ListN.{length, getD};
-ghost use Rattle.minimal.specs.Sizes.{Without};
+ghost use lib.ListN.{length};
+ghost use Rattle.minimal.specs.Sizes.{NextPlace, Without};
 
 // Passes over blocks of k places without label v.
 fn past_blocks(labels: &[u8], v: u8, k: usize, from: usize) -> usize
@@ -22,7 +21,7 @@ fn past_blocks(labels: &[u8], v: u8, k: usize, from: usize) -> usize
 // The next place with label v, or the end; one by one.
 fn past_places(labels: &[u8], v: u8, from: usize) -> usize
     requires { ⌜ from ≤ length (now labels) ⌝ }
-    ensures { λ i. ⌜ (from ≤ i) × (i ≤ length (now (labels .entry))) × Without v from i (now (labels .entry)) × (i < length (now (labels .entry)) → getD (now (labels .entry)) i 0 ≡ v) ⌝ }
+    ensures { λ i. ⌜ NextPlace v from (now (labels .entry)) i ⌝ }
 {
     let mut i = from;
     while i < labels.len() {
@@ -37,7 +36,7 @@ fn past_places(labels: &[u8], v: u8, from: usize) -> usize
 // The same; most places are passed over by blocks.
 pub fn next_place(labels: &[u8], v: u8, from: usize) -> usize
     requires { ⌜ from ≤ length (now labels) ⌝ }
-    ensures { λ i. ⌜ (from ≤ i) × (i ≤ length (now (labels .entry))) × Without v from i (now (labels .entry)) × (i < length (now (labels .entry)) → getD (now (labels .entry)) i 0 ≡ v) ⌝ }
+    ensures { λ i. ⌜ NextPlace v from (now (labels .entry)) i ⌝ }
 {
     if from < labels.len() && labels[from] == v {
         return from;

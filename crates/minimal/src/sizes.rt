@@ -15,7 +15,7 @@ ghost use Rattle.morphology.specs.Lists.{greatest};
 ghost use Rattle.morphology.specs.Morphology.{dilate};
 ghost use Rattle.planes.specs.Frames.{Frame};
 ghost use Rattle.iteration.specs.Steps.{First};
-ghost use Rattle.minimal.specs.Bands.{Banded, inkAt};
+ghost use Rattle.minimal.specs.Bands.{CoverAt, inkAt};
 ghost use Rattle.minimal.specs.Covers.{single, counts};
 ghost use Rattle.minimal.specs.Moves.{below, hits, Open, Moved};
 ghost use Rattle.minimal.specs.Sizes.{Shape, Tame, Counting, Begun, Left};
@@ -33,8 +33,10 @@ fn count_at(
     plane: &[u8],
     counters: &mut [u16],
 )
-    requires { ⌜ Banded w h r band (now plane) × (i < length (now labels)) × (i < 2 ^ 30) × (n < 2 ^ 30) × (getD (now labels) i 0 ≡ n + 1 → Open true (below (w * h) (inkAt w h (now plane))) i a (now counters)) ⌝ }
-    ensures { λ _. ⌜ Moved true (λ x. eqb (getD (now (labels .entry)) i 0) (n + 1) && hits (below (w * h) (inkAt w h (now (plane .entry)))) i a x) (now (counters .entry)) (now (counters .exit)) ⌝ }
+    requires { ⌜ CoverAt w h r band n i (now labels) (now plane)
+        × (getD (now labels) i 0 ≡ n + 1 → Open true (below (w * h) (inkAt w h (now plane))) i a (now counters)) ⌝ }
+    ensures { λ _. ⌜ Moved true (λ x. eqb (getD (now (labels .entry)) i 0) (n + 1) && hits (below (w * h) (inkAt w h (now (plane .entry)))) i a x)
+        (now (counters .entry)) (now (counters .exit)) ⌝ }
 {
     if labels[i] as usize == n + 1 {
         covers::move_cover(true, plane, w, h, r, band, a, i, counters);

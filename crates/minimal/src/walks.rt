@@ -5,7 +5,7 @@ use crate::covers;
 use crate::places;
 use crate::sizes;
 ghost use mathlib.Core.Path.{_≡_};
-ghost use Prim.Native.Nat.{_+_, _*_, _<_, _≤_, _^_};
+ghost use Prim.Native.Nat.{_+_, _*_, _<_};
 ghost use lib.ListN.{length, getD};
 ghost use Rattle.morphology.specs.Element.{offsets};
 ghost use Rattle.morphology.specs.Image.{imageSet, clip};
@@ -13,7 +13,7 @@ ghost use Rattle.morphology.specs.Labels.{maxLabel};
 ghost use Rattle.morphology.specs.Minimal.{minimalLabels};
 ghost use Rattle.morphology.specs.Morphology.{dilate};
 ghost use Rattle.iteration.specs.Steps.{First};
-ghost use Rattle.minimal.specs.Bands.{Banded, inkAt};
+ghost use Rattle.minimal.specs.Bands.{CoverAt, inkAt};
 ghost use Rattle.minimal.specs.Covers.{counts};
 ghost use Rattle.minimal.specs.Moves.{below, Within};
 ghost use Rattle.minimal.specs.Sizes.{Shape, Tame, Begun, Left};
@@ -32,7 +32,8 @@ fn step(
     plane: &[u8],
     counters: &mut [u16],
 )
-    requires { ⌜ Banded w h r band (now plane) × (i < length (now labels)) × (i < 2 ^ 30) × (n < 2 ^ 30) × (getD (now labels) i 0 ≡ n + 1 → Within (below (w * h) (inkAt w h (now plane))) i a (length (now counters))) ⌝ }
+    requires { ⌜ CoverAt w h r band n i (now labels) (now plane)
+        × (getD (now labels) i 0 ≡ n + 1 → Within (below (w * h) (inkAt w h (now plane))) i a (length (now counters))) ⌝ }
     ensures { λ _. ⌜ Stepped w h n a i (now (plane .entry)) (now (labels .entry)) (now (counters .entry)) (now (labels .exit)) (now (counters .exit)) ⌝ }
 {
     if labels[i] as usize != n + 1 {

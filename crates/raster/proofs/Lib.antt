@@ -3,3 +3,4 @@ pub mod LoopLaws
 pub mod RowLaws
 pub mod PartLaws
 pub mod CountLaws
+pub mod BandLaws

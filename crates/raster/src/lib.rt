@@ -1,4 +1,6 @@
 // Rows and planes of packed pixels.
+pub mod bands;
+
 ghost use mathlib.Core.Path.{_≡_};
 ghost use mathlib.Core.Bool.{_&&_, not};
 ghost use mathlib.Core.List.{_++_};

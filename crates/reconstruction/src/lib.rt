@@ -1,16 +1,15 @@
 // Labels reconstructed in the first plane of work: from the largest size down to a cut.
 ghost use mathlib.Core.Path.{_≡_};
 ghost use Prim.Native.Nat.{_*_, _-_, _<_, _≤_};
-ghost use lib.Dec.{T};
 ghost use lib.ListN.{length, replicate, take};
 ghost use Rattle.morphology.specs.Element.{offsets};
-ghost use Rattle.morphology.specs.Image.{isClean};
 ghost use Rattle.morphology.specs.Skeleton.{reconstruction};
 ghost use Rattle.label_read.specs.Points.{Tops};
 ghost use Rattle.iteration.specs.Steps.{First, Sheet, Wrote};
-ghost use Rattle.reconstruction.specs.Gathered.{Kept, Tame, gathered, grown};
+ghost use Rattle.reconstruction.specs.Gathered.{GrowStart, Kept, Tame, gathered, grown};
 
-// One size of a reconstruction: the first plane dilated, and the points with label v joined to it. tops holds each row's largest label not above v, and then that below v.
+// One size of a reconstruction: the first plane dilated, and the points with label v joined to it.
+// tops holds each row's largest label not above v, and then that below v.
 fn grow(
     w: usize,
     h: usize,
@@ -22,7 +21,7 @@ fn grow(
     tops: &mut [u8],
     work: &mut [u8],
 )
-    requires { ⌜ Sheet w h r p × (2 * p ≤ length (now work)) × (0 < v) × (length (now labels) ≡ w * h) × T (isClean w h (now work)) × Tops w h v (now labels) (now tops) × (h ≤ length (now tops)) ⌝ }
+    requires { ⌜ GrowStart w h r p v (now labels) (now tops) (now work) ⌝ }
     ensures work { λ _. ⌜ First w h p (grown w h (offsets element) (now (labels .entry)) v (now (work .entry))) (now (work .entry)) (now (work .exit)) ⌝ }
     ensures tops { λ _. ⌜ Tops w h (v - 1) (now (labels .entry)) (now (tops .exit)) ⌝ }
 {

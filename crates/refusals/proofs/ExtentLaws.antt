@@ -76,7 +76,8 @@ extent-more : (f : Point → ℕ) (e i : ℕ)
 unfolding extent greatest offsetsBelow
 extent-more f e i = ap (λ (n : ℕ). extent f (offsetsBelow 2 e n)) (add-one i) ∙ go (bit e i)
   where
-    go : (b : Bool) → extent f (cond b (offset 2 i ∷ offsetsBelow 2 e i) (offsetsBelow 2 e i)) ≡ cond b (max (extent f (offsetsBelow 2 e i)) (f (offset 2 i))) (extent f (offsetsBelow 2 e i))
+    go : (b : Bool) → extent f (cond b (offset 2 i ∷ offsetsBelow 2 e i) (offsetsBelow 2 e i)) ≡ cond b (max (extent f (offsetsBelow 2 e i)) (f (offset 2 i)))
+        (extent f (offsetsBelow 2 e i))
     go true = refl
     go false = refl
 

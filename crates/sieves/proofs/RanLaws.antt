@@ -30,7 +30,8 @@ reconstructed-left W H e k labels image work f = ap (λ (o : Outcome). o .lent) 
 
 module _ (W H e k : ℕ) (image labels work : List ℕ) where
   -- the first call is refused
-  pub outcome-refused : (a : Answer) (labels′ work′ : List ℕ) (n : ℕ) → outcome a (labels′ ∷ work′ ∷ []) ≡ decomposed W H e image labels work → n ≡ a .refusal → (n ≡ 0 → ⊥)
+  pub outcome-refused : (a : Answer) (labels′ work′ : List ℕ) (n : ℕ) → outcome a (labels′ ∷ work′ ∷ []) ≡ decomposed W H e image labels work → n ≡ a .refusal
+      → (n ≡ 0 → ⊥)
       → outcome (refused n) (image ∷ labels′ ∷ work′ ∷ []) ≡ sieveOutcome W H e k image labels work
   unfolding sieveOutcome
   outcome-refused a labels′ work′ n q r f =
@@ -41,7 +42,8 @@ module _ (W H e k : ℕ) (image labels work : List ℕ) where
       ∙ sym (unless-refused (D .answer .refusal) (image ∷ labels ∷ work ∷ []) _ g)
 
   -- it is not
-  pub outcome-both : (a b : Answer) (labels′ work′ left work″ : List ℕ) (n : ℕ) → outcome a (labels′ ∷ work′ ∷ []) ≡ decomposed W H e image labels work → n ≡ a .refusal → n ≡ 0
+  pub outcome-both : (a b : Answer) (labels′ work′ left work″ : List ℕ) (n : ℕ) → outcome a (labels′ ∷ work′ ∷ []) ≡ decomposed W H e image labels work
+      → n ≡ a .refusal → n ≡ 0
       → outcome b (left ∷ work″ ∷ []) ≡ reconstructed W H e k labels′ image work′
       → outcome b (left ∷ labels′ ∷ work″ ∷ []) ≡ sieveOutcome W H e k image labels work
   unfolding sieveOutcome
@@ -78,13 +80,15 @@ runs-as-claimed s image = go (D .answer .refusal) refl
     go zero q =
         let one : isRefused R ≡ sieveRefused (handed s image) image = sym (ap (λ (n : ℕ). not (eqb n 0) || isRefused R) q) in
         record {
-          scan = scan-left (s .width) (s .height) (s .element) (s .cut) (output D) image (workOf D) (isRefused R) refl ∙ ap (λ (b : Bool). cond b image (output R)) one;
+          scan = scan-left (s .width) (s .height) (s .element) (s .cut) (output D) image (workOf D) (isRefused R) refl
+              ∙ ap (λ (b : Bool). cond b image (output R)) one;
           refusal = one;
           answer = λ g. refl;
         }
     go (suc n) q =
         let f = ne-eqb (suc n) 0 (suc-ne-zero n) in
-        let one : true ≡ sieveRefused (handed s image) image = sym (ap (λ (n : ℕ). not (eqb n 0) || isRefused R) q ∙ ap (λ (b : Bool). not b || isRefused R) f) in
+        let one : true ≡ sieveRefused (handed s image) image = sym
+        (ap (λ (n : ℕ). not (eqb n 0) || isRefused R) q ∙ ap (λ (b : Bool). not b || isRefused R) f) in
         record {
           scan = ap (λ (b : Bool). cond b image (output R)) one;
           refusal = ap not f ∙ one;
@@ -101,4 +105,5 @@ list-runs-as-claimed (s ∷ ss) image =
 pub running-sieve-list : RunningSieveList
 running-sieve-list W H e first ss i el one =
     let done = accepted (handedAll ss first) first in
-    subst (λ (last : List ℕ). Sieved W H e first done (largestCut done) last) (sym (list-runs-as-claimed ss first)) (sieve-list W H e first (handedAll ss first) i el one)
+    subst (λ (last : List ℕ). Sieved W H e first done (largestCut done) last) (sym (list-runs-as-claimed ss first))
+    (sieve-list W H e first (handedAll ss first) i el one)

@@ -97,4 +97,5 @@ module _ (W H p : ℕ) where
       ap (λ (i : ℕ). drop i u) y ∙ sym (drop-drop (2 * p) p u) ∙ ap (drop (2 * p)) (d .rest) ∙ drop-drop (2 * p) p work ∙ ap (λ (i : ℕ). drop i work) (sym y) in
       let w : work′ ≡ cleared W H work = e ∙ ap (λ (s : List ℕ). replicate (3 * p) 0 ++ s) rest ∙ ap (λ (i : ℕ). replicate (3 * i) 0 ++ drop (3 * i) work) q in
       ap₂ (λ (i j : ℕ). outcome (thinned n i j) (t ∷ work′ ∷ [])) (d .removed) (d .left)
-      ∙ ap (λ (s : List ℕ). outcome (thinned n (points W H image - points W H t) (points W H t)) (t ∷ s ∷ [])) w ∙ sym (thin-outcome W H image work t n z (d .thinned))
+      ∙ ap (λ (s : List ℕ). outcome (thinned n (points W H image - points W H t) (points W H t)) (t ∷ s ∷ [])) w
+      ∙ sym (thin-outcome W H image work t n z (d .thinned))

@@ -122,5 +122,6 @@ hits-done W H r fg bg e b image old new f len t clean bytes qe qb qo a =
         ap (rowBit new) (sym z) ∙ a .pixels y x hy hx
         ∙ and-assoc (rowBit old (8 * (0 + y * r) + x)) (neighbours false (e - 4096) near x y) n
         ∙ ap₂ (λ (c : Bool) (k : ℕ). (c && neighbours false (k - 4096) near x y) && n) (ap₂ rowBit qo z ∙ sym (near-itself image r H x y hy hx)) qe
-        ∙ ap₂ (λ (c : Bool) (k : ℕ). c && neighbours false k (λ X Y. not (near X Y)) x y) (origin-less false (widened fg) near x y (widened-centre fg (m .fg-small) (m .centre))) qb
+        ∙ ap₂ (λ (c : Bool) (k : ℕ). c && neighbours false k (λ X Y. not (near X Y)) x y)
+        (origin-less false (widened fg) near x y (widened-centre fg (m .fg-small) (m .centre))) qb
         ∙ hits-set W H r fg bg image (f .row) m clean x y

@@ -26,7 +26,11 @@ unfolding isMask
 mask-of fg bg t =
     let s = and-l (ltb fg (2 ^ 9) && ltb bg (2 ^ 9)) (bit fg 4 && apart fg bg) t in
     let c = and-l (bit fg 4) (apart fg bg) (and-r (ltb fg (2 ^ 9) && ltb bg (2 ^ 9)) (bit fg 4 && apart fg bg) t) in
-    record { fg-small = ltb→lt fg 512 (and-l (ltb fg (2 ^ 9)) (ltb bg (2 ^ 9)) s); bg-small = ltb→lt bg 512 (and-r (ltb fg (2 ^ 9)) (ltb bg (2 ^ 9)) s); centre = eqb→eq (fg / 2 ^ 4 % 2) 1 c }
+    record {
+      fg-small = ltb→lt fg 512 (and-l (ltb fg (2 ^ 9)) (ltb bg (2 ^ 9)) s);
+      bg-small = ltb→lt bg 512 (and-r (ltb fg (2 ^ 9)) (ltb bg (2 ^ 9)) s);
+      centre = eqb→eq (fg / 2 ^ 4 % 2) 1 c;
+    }
 
 -- ---- row 6
 

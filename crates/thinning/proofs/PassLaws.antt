@@ -49,7 +49,8 @@ step-leaves W H p m image t work ys q len h clean bytes e a =
     let size : length ys ≡ p = ap length e ∙ length-pack W H Y ∙ sym q in
     let src : take p (ys ++ drop p work) ≡ pack W H Y = take-at ys (drop p work) p size ∙ e in
     record {
-      image = less-hits W H Y image t (len ∙ q) clean bytes (record { size = a .size; pixels = λ x l. a .pixels x l ∙ ap (λ (s : List ℕ). rowBit image x && not (rowBit s x)) src });
+      image = less-hits W H Y image t (len ∙ q) clean bytes
+          (record { size = a .size; pixels = λ x l. a .pixels x l ∙ ap (λ (s : List ℕ). rowBit image x && not (rowBit s x)) src });
       size = length-append ys (drop p work) ∙ omega (arith, size, length-drop p work);
       rest = drop-at ys (drop p work) p size;
     }

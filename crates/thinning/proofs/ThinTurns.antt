@@ -53,7 +53,8 @@ module _ (W H : ℕ) where
 
   -- one mask more
   pub masks-turn : (k : ℕ) (s : List ℕ) → k < 8 → masksBelow (k + 1) s ≡ thinStep W H (getD golayL k (0, 0)) (masksBelow k s)
-  masks-turn k s h = ap (λ (ms : List (ℕ × ℕ)). thinPass W H ms s) (ap (λ (i : ℕ). take i golayL) (add-one k) ∙ take-suc golayL k (0, 0) h) ∙ pass-append (take k golayL) (getD golayL k (0, 0)) s
+  masks-turn k s h = ap (λ (ms : List (ℕ × ℕ)). thinPass W H ms s) (ap (λ (i : ℕ). take i golayL) (add-one k) ∙ take-suc golayL k (0, 0) h)
+      ∙ pass-append (take k golayL) (getD golayL k (0, 0)) s
 
   -- ---- passes
 
@@ -76,7 +77,8 @@ module _ (W H : ℕ) where
 
   -- a pass that is not idle
   pub passed-turn : (s₀ : List ℕ) (n : ℕ) (t : List ℕ) → Passed s₀ n t → (points W H t ≡ points W H (pass W H t) → ⊥) → Passed s₀ (n + 1) (pass W H t)
-  passed-turn s₀ n t q f = q ∙ ap (after n) (passes-suc W H (points W H t) t ∙ ap (ends W H t (thinPasses (points W H t) W H u)) (ne-eqb (points W H t) (points W H u) f)) ∙ one (points W H t) refl
+  passed-turn s₀ n t q f = q ∙ ap (after n) (passes-suc W H (points W H t) t
+      ∙ ap (ends W H t (thinPasses (points W H t) W H u)) (ne-eqb (points W H t) (points W H u) f)) ∙ one (points W H t) refl
     where
       u : List ℕ
       u = pass W H t

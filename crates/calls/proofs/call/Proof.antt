@@ -62,7 +62,8 @@ returns c =
     let o = c .before .before .before .before .before in
     let m = o .before .before .before in
     let a = m .before .before .before .before .before .args in
-    owed-beside (_ ∷ _ ∷ []) (_ ∷ []) (written-kept (o .erode .result)) (c .of-written .ensures) (o .erode .ensures) (called-as (a .w) (a .h) (a .a) (a .b) (now (a .x)) (now (a .y)) (now (a .z)) (now (a .c)) 0 (m .match .keys1))
+    owed-beside (_ ∷ _ ∷ []) (_ ∷ []) (written-kept (o .erode .result)) (c .of-written .ensures) (o .erode .ensures)
+    (called-as (a .w) (a .h) (a .a) (a .b) (now (a .x)) (now (a .y)) (now (a .z)) (now (a .c)) 0 (m .match .keys1))
 
 same-length-3 : tie.Need-same-length-3
 same-length-3 c = search needs
@@ -76,7 +77,8 @@ returns-2 c =
     let o = c .before .before .before .before .before in
     let m = o .before .before .before in
     let a = m .before .before .before .before .before .args in
-    owed-beside (_ ∷ _ ∷ []) (_ ∷ []) (written-kept (o .«open» .result)) (c .of-written2 .ensures) (o .«open» .ensures) (called-as (a .w) (a .h) (a .a) (a .b) (now (a .x)) (now (a .y)) (now (a .z)) (now (a .c)) 1 (m .match .keys2))
+    owed-beside (_ ∷ _ ∷ []) (_ ∷ []) (written-kept (o .«open» .result)) (c .of-written2 .ensures) (o .«open» .ensures)
+    (called-as (a .w) (a .h) (a .a) (a .b) (now (a .x)) (now (a .y)) (now (a .z)) (now (a .c)) 1 (m .match .keys2))
 
 same-length-5 : tie.Need-same-length-5
 same-length-5 c = search needs
@@ -90,7 +92,8 @@ returns-3 c =
     let o = c .before .before .before .before .before in
     let m = o .before .before .before in
     let a = m .before .before .before .before .before .args in
-    owed-beside (_ ∷ _ ∷ []) (_ ∷ []) (decomposed-kept (o .decompose .result)) (c .of-decomposed .ensures) (o .decompose .ensures) (called-as (a .w) (a .h) (a .a) (a .b) (now (a .x)) (now (a .y)) (now (a .z)) (now (a .c)) 2 (m .match .keys3))
+    owed-beside (_ ∷ _ ∷ []) (_ ∷ []) (decomposed-kept (o .decompose .result)) (c .of-decomposed .ensures) (o .decompose .ensures)
+    (called-as (a .w) (a .h) (a .a) (a .b) (now (a .x)) (now (a .y)) (now (a .z)) (now (a .c)) 2 (m .match .keys3))
 
 same-length-7 : tie.Need-same-length-7
 same-length-7 c = search needs
@@ -104,7 +107,8 @@ returns-4 c =
     let o = c .before .before .before .before .before in
     let m = o .before .before .before in
     let a = m .before .before .before .before .before .args in
-    owed-beside (_ ∷ _ ∷ []) (_ ∷ []) (written-kept (o .reconstruct .result)) (c .of-written3 .ensures) (o .reconstruct .ensures) (called-as (a .w) (a .h) (a .a) (a .b) (now (a .x)) (now (a .y)) (now (a .z)) (now (a .c)) 3 (m .match .keys4))
+    owed-beside (_ ∷ _ ∷ []) (_ ∷ []) (written-kept (o .reconstruct .result)) (c .of-written3 .ensures) (o .reconstruct .ensures)
+    (called-as (a .w) (a .h) (a .a) (a .b) (now (a .x)) (now (a .y)) (now (a .z)) (now (a .c)) 3 (m .match .keys4))
 
 same-length-9 : tie.Need-same-length-9
 same-length-9 c = search needs
@@ -121,7 +125,8 @@ returns-5 c =
     let o = c .before .before .before .before .before .before .before in
     let m = o .before .before .before .before in
     let a = m .before .before .before .before .before .args in
-    owed (_ ∷ _ ∷ _ ∷ []) (minimised-kept (o .minimise .result)) (c .of-minimised .ensures) (o .minimise .ensures) (called-as (a .w) (a .h) (a .a) (a .b) (now (a .x)) (now (a .y)) (now (a .z)) (now (a .c)) 4 (m .match .keys5))
+    owed (_ ∷ _ ∷ _ ∷ []) (minimised-kept (o .minimise .result)) (c .of-minimised .ensures) (o .minimise .ensures)
+    (called-as (a .w) (a .h) (a .a) (a .b) (now (a .x)) (now (a .y)) (now (a .z)) (now (a .c)) 4 (m .match .keys5))
 
 same-length-12 : tie.Need-same-length-12
 same-length-12 c = search needs
@@ -132,7 +137,8 @@ returns-6 c =
     let o = c .before .before .before in
     let m = o .before .before in
     let a = m .before .before .before .before .before .args in
-    owed-beside (_ ∷ []) (_ ∷ _ ∷ []) (hit-kept (o .hit-or-miss .result)) (c .of-hit .ensures) (o .hit-or-miss .ensures) (called-as (a .w) (a .h) (a .a) (a .b) (now (a .x)) (now (a .y)) (now (a .z)) (now (a .c)) 5 (m .match .keys6))
+    owed-beside (_ ∷ []) (_ ∷ _ ∷ []) (hit-kept (o .hit-or-miss .result)) (c .of-hit .ensures) (o .hit-or-miss .ensures)
+    (called-as (a .w) (a .h) (a .a) (a .b) (now (a .x)) (now (a .y)) (now (a .z)) (now (a .c)) 5 (m .match .keys6))
 
 same-length-13 : tie.Need-same-length-13
 same-length-13 c = search needs

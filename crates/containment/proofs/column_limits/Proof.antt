@@ -36,7 +36,8 @@ loop-again c =
     let l = c .before .before .loop in (
       omega arith,
       length-set (l .limits) (l .x) (c .limit-at .result) ∙ l .inv .1,
-      limits-more (λ j v. Limit (a .cut) (roomAt (a .w) (a .lo) (a .hi) j) v) (l .limits) (l .x) (c .limit-at .result) (omega (arith, l .inv .1)) (l .inv .2) (c .limit-at .ensures),
+      limits-more (λ j v. Limit (a .cut) (roomAt (a .w) (a .lo) (a .hi) j) v) (l .limits) (l .x) (c .limit-at .result) (omega (arith, l .inv .1)) (l .inv .2)
+          (c .limit-at .ensures),
     )
 
 same-length : tie.Need-same-length Inv-loop μ-loop

@@ -19,6 +19,9 @@ Inv-loop w h element cut labels left right up down limits y₀ y =
 abbrev μ-loop : tie.MeasureT-loop
 μ-loop w h element cut labels left right up down limits y₀ y = h - y
 
+abbrev to-in-loop : tie.After-limit-at Inv-loop μ-loop → tie.In-loop Inv-loop μ-loop
+to-in-loop c = c .before .before .before
+
 extent-requires : tie.Need-extent-requires Inv-loop μ-loop
 extent-requires c κs = search needs
 
@@ -40,18 +43,24 @@ column-limits-requires c κs = search needs
 loop-holds : tie.Need-loop-holds Inv-loop μ-loop
 unfolding tabulate
 loop-holds c =
-    let s = c .before .before .before .before .before .before .before .before in (
+    let at-column-limits = c .before in
+    let at-extent4 = at-column-limits .before .before in
+    let at-extent3 = at-extent4 .before in
+    let at-extent2 = at-extent3 .before in
+    let at-extent = at-extent2 .before in
+    let at-shared-slice-known = at-extent .before in
+    let s = at-shared-slice-known .before in (
       omega arith,
       record {
         shape = element (s .args .element) (s .pre .2);
         size = s .pre .1;
-        labels = λ i. omega (arith, c .before .before .before .before .before .before .before .shared-slice-known .given i);
-        leftward = c .before .before .before .before .before .before .extent .ensures .0;
-        rightward = c .before .before .before .before .before .extent2 .ensures .0;
-        upward = c .before .before .before .before .extent3 .ensures .0;
-        downward = c .before .before .before .extent4 .ensures .0;
-        columns = c .before .column-limits .ensures;
-        room = omega (arith, c .before .column-limits .kept .1 .1 .1 .1 .0, s .pre .0);
+        labels = λ i. omega (arith, at-shared-slice-known .shared-slice-known .given i);
+        leftward = at-extent .extent .ensures .0;
+        rightward = at-extent2 .extent2 .ensures .0;
+        upward = at-extent3 .extent3 .ensures .0;
+        downward = at-extent4 .extent4 .ensures .0;
+        columns = at-column-limits .column-limits .ensures;
+        room = omega (arith, at-column-limits .column-limits .kept .1 .1 .1 .1 .0, s .pre .0);
       },
       refl,
     )
@@ -72,18 +81,25 @@ part-row-is-wild-end : tie.Need-part-row-is-wild-end Inv-loop μ-loop
 part-row-is-wild-end c = let l = c .before .loop in omega (arith, row-fits (l .inv .1) (l .y) (c .loop-test .taken))
 
 slice-aggregate-row-is-wild : tie.Need-slice-aggregate-row-is-wild Inv-loop μ-loop
-slice-aggregate-row-is-wild c = sym (c .before .before .before .before .before .column-limits .kept .1 .1 .1 .1 .0)
+slice-aggregate-row-is-wild c =
+    let at-column-limits = c .before .before .before .before .before in
+    sym (at-column-limits .column-limits .kept .1 .1 .1 .1 .0)
 
 limit-at-requires : tie.Need-limit-at-requires Inv-loop μ-loop
 limit-at-requires c κs = search needs
 
 row-is-wild-requires : tie.Need-row-is-wild-requires Inv-loop μ-loop
-row-is-wild-requires c κs = part-limited (c .before .before .before .before .loop .inv .1) _
+row-is-wild-requires c κs =
+    let at-loop = c .before .before .before .before in
+    part-limited (at-loop .loop .inv .1) _
 
 returns : tie.Need-returns Inv-loop μ-loop
 returns c =
-    let l = c .before .before .before .before .before .before .loop in
-    wild-stop (l .inv .1) (l .y) (c .before .before .before .before .before .loop-test .taken) _ (c .before .before .limit-at .ensures) (sym (c .before .row-is-wild .ensures) ∙ c .if1 .taken)
+    let at-limit-at = c .before .before in
+    let in-loop = to-in-loop at-limit-at in
+    let at-loop = in-loop .before in
+    let l = at-loop .loop in
+    wild-stop (l .inv .1) (l .y) (in-loop .loop-test .taken) _ (at-limit-at .limit-at .ensures) (sym (c .before .row-is-wild .ensures) ∙ c .if1 .taken)
 
 add-y : tie.Need-add-y Inv-loop μ-loop
 add-y c = omega arith
@@ -93,15 +109,20 @@ loop-less c = omega arith
 
 loop-again : tie.Need-loop-again Inv-loop μ-loop
 loop-again c =
-    let l = c .before .before .before .before .before .before .loop in (
+    let at-limit-at = c .before .before in
+    let in-loop = to-in-loop at-limit-at in
+    let at-loop = in-loop .before in
+    let l = at-loop .loop in (
       omega arith,
       l .inv .1,
-      wild-turn (l .inv .1) (l .y) (c .before .before .before .before .before .loop-test .taken) _ (c .before .before .limit-at .ensures) (sym (c .before .row-is-wild .ensures) ∙ c .if1 .left) (l .inv .2),
+      wild-turn (l .inv .1) (l .y) (in-loop .loop-test .taken) _ (at-limit-at .limit-at .ensures) (sym (c .before .row-is-wild .ensures) ∙ c .if1 .left)
+          (l .inv .2),
     )
 
 returns-2 : tie.Need-returns-2 Inv-loop μ-loop
 returns-2 c =
-    let a = c .before .before .before .before .before .before .before .before .before .before .args in
+    let s = c .before .before .before .before .before .before .before .before .before .before in
+    let a = s .args in
     let l = c .before .loop in
     wild-last (a .w) (a .h) (offsets (a .element)) (a .cut) (now (a .labels)) (l .y) (omega arith) (l .inv .2)
 

@@ -18,6 +18,9 @@ Inv-loop row limits limit wild₀ x₀ wild x = (x ≤ length row) × (wild ≡ 
 abbrev μ-loop : tie.MeasureT-loop
 μ-loop row limits limit wild₀ x₀ wild x = length row - x
 
+abbrev start : tie.At-loop Inv-loop μ-loop → tie.Start Inv-loop μ-loop
+start c = c .before .before .before
+
 loop-holds : tie.Need-loop-holds Inv-loop μ-loop
 unfolding tabulate
 loop-holds c = (omega arith, refl)
@@ -39,14 +42,20 @@ loop-less c = omega arith
 
 loop-again : tie.Need-loop-again Inv-loop μ-loop
 loop-again c =
-    let a = c .before .before .before .before .before .before .before .args in
-    let l = c .before .before .before .before .loop in
-    let v = getD (now (a .row)) (l .x) 0 in
-    (omega arith, ap₂ _||_ (l .inv .1) (c .before .lesser .ensures v) ∙ sym (any-more (λ i. over (getD (now (a .row)) i 0) (getD (now (a .limits)) i 0) (a .limit)) (l .x)))
+    let at-loop = c .before .before .before .before in
+    let s = start at-loop in
+    let a = s .args in
+    let l = at-loop .loop in
+    let v = getD (now (a .row)) (l .x) 0 in (
+      omega arith,
+      ap₂ _||_ (l .inv .1) (c .before .lesser .ensures v) ∙ sym
+          (any-more (λ i. over (getD (now (a .row)) i 0) (getD (now (a .limits)) i 0) (a .limit)) (l .x)),
+    )
 
 returns : tie.Need-returns Inv-loop μ-loop
 returns c =
-    let a = c .before .before .before .before .args in
+    let s = start (c .before) in
+    let a = s .args in
     let l = c .before .loop in
     let e : l .x ≡ length (now (a .row)) = omega arith in
     l .inv .1 ∙ ap (λ (n : ℕ). someOf (λ i. over (getD (now (a .row)) i 0) (getD (now (a .limits)) i 0) (a .limit)) (upTo n)) e

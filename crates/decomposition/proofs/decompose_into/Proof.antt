@@ -11,12 +11,21 @@ use Rattle.iteration.proofs.StepLaws.{loaded, ready-sheet, rest-cleared, sheet-
 use Rattle.decomposition.proofs.decompose_into.Statement.{statement}
 use Rattle.decomposition.proofs.decompose_into.Tie as tie
 
+abbrev start : tie.After-slice-known2 → tie.Start
+start c = c .before .before .before
+
+abbrev to-copy : tie.After-take-turns-arg2 → tie.After-copy
+to-copy c = c .before .before .before .before .before .before .before .before
+
+abbrev to-take-turns : tie.After-clear-work-arg → tie.After-take-turns
+to-take-turns c = c .before .before .before .before .before
+
 add-r : tie.Need-add-r
 add-r c = search needs
 
 mul-p : tie.Need-mul-p
 mul-p c =
-    let s = c .before .before .before in
+    let s = start c in
     let a = s .args in
     let k = ready-sheet (s .pre .0) in
     let q = sheet-bytes k in
@@ -25,7 +34,7 @@ mul-p c =
 
 slice-relend-prefix-copy : tie.Need-slice-relend-prefix-copy
 slice-relend-prefix-copy c =
-    let s = c .before .before .before in
+    let s = start c in
     let a = s .args in
     let k = ready-sheet (s .pre .0) in
     let q = sheet-bytes k in
@@ -34,7 +43,7 @@ slice-relend-prefix-copy c =
 
 slice-aggregate-copy : tie.Need-slice-aggregate-copy
 slice-aggregate-copy c =
-    let s = c .before .before .before .before in
+    let s = start (c .before) in
     let a = s .args in
     let k = ready-sheet (s .pre .0) in
     let q = sheet-bytes k in
@@ -43,7 +52,7 @@ slice-aggregate-copy c =
 
 copy-requires : tie.Need-copy-requires
 copy-requires c κs =
-    let s = c .before .before .before .before in
+    let s = start (c .before) in
     let a = s .args in
     let k = ready-sheet (s .pre .0) in
     let q = sheet-bytes k in
@@ -55,23 +64,34 @@ fill-requires c κs = search needs
 
 take-turns-requires : tie.Need-take-turns-requires
 take-turns-requires c κs =
-    let s = c .before .before .before .before .before .before .before .before .before .before .before .before .before in
+    let at-fill = c .before .before .before .before in
+    let at-copy = to-copy c in
+    let s = start (at-copy .before .before) in
     let a = s .args in
     let k = ready-sheet (s .pre .0) in
     let q = sheet-bytes k in
     let p = a .h * ((a .w + 7) / 8) in
-    let v = loaded (a .w) (a .h) p (now (a .image)) (now (a .image)) (now (a .work)) _ q (s .pre .0) (c .before .before .before .before .before .before .before .before .copy .ensures) in
-    (k, s .pre .1, s .pre .2, omega (arith, v .size, s .pre .0 .work, q), c .before .before .before .before .fill .ensures ∙ ap (λ (n : ℕ). replicate n 0) (s .pre .3), s .pre .4, v .clean)
+    let v = loaded (a .w) (a .h) p (now (a .image)) (now (a .image)) (now (a .work)) _ q (s .pre .0) (at-copy .copy .ensures) in (
+      k,
+      s .pre .1,
+      s .pre .2,
+      omega (arith, v .size, s .pre .0 .work, q),
+      at-fill .fill .ensures ∙ ap (λ (n : ℕ). replicate n 0) (s .pre .3),
+      s .pre .4,
+      v .clean,
+    )
 
 clear-work-requires : tie.Need-clear-work-requires
 clear-work-requires c κs =
-    let s = c .before .before .before .before .before .before .before .before .before .before .before .before .before .before .before .before .before .before .before in
+    let at-take-turns = to-take-turns c in
+    let at-copy = to-copy (at-take-turns .before) in
+    let s = start (at-copy .before .before) in
     let a = s .args in
     let k = ready-sheet (s .pre .0) in
     let q = sheet-bytes k in
     let p = a .h * ((a .w + 7) / 8) in
-    let v = loaded (a .w) (a .h) p (now (a .image)) (now (a .image)) (now (a .work)) _ q (s .pre .0) (c .before .before .before .before .before .before .before .before .before .before .before .before .before .before .copy .ensures) in
-    (omega (arith, v .size, c .before .before .before .before .before .take-turns .ensures .size, s .pre .0 .work, q), sheet-small k)
+    let v = loaded (a .w) (a .h) p (now (a .image)) (now (a .image)) (now (a .work)) _ q (s .pre .0) (at-copy .copy .ensures) in
+    (omega (arith, v .size, at-take-turns .take-turns .ensures .size, s .pre .0 .work, q), sheet-small k)
 
 same-length : tie.Need-same-length
 same-length c = search needs
@@ -81,17 +101,20 @@ same-length-2 c = search needs
 
 returns : tie.Need-returns
 returns c =
-    let s = c .before .before .before .before .before .before .before .before .before .before .before .before .before .before .before .before .before .before .before .before .before .before in
+    let at-clear-work = c .before .before in
+    let at-take-turns = to-take-turns (at-clear-work .before) in
+    let at-copy = to-copy (at-take-turns .before) in
+    let s = start (at-copy .before .before) in
     let a = s .args in
     let k = ready-sheet (s .pre .0) in
     let q = sheet-bytes k in
     let p = a .h * ((a .w + 7) / 8) in
-    let v = loaded (a .w) (a .h) p (now (a .image)) (now (a .image)) (now (a .work)) _ q (s .pre .0) (c .before .before .before .before .before .before .before .before .before .before .before .before .before .before .before .before .before .copy .ensures) in
-    let t = c .before .before .before .before .before .before .before .before .take-turns .ensures in
-    let w = c .before .before .before .before .before .before .before .before .take-turns .last .1 .1 .1 .1 .1 .1 .0 in (
+    let v = loaded (a .w) (a .h) p (now (a .image)) (now (a .image)) (now (a .work)) _ q (s .pre .0) (at-copy .copy .ensures) in
+    let t = at-take-turns .take-turns .ensures in
+    let w = at-take-turns .take-turns .last .1 .1 .1 .1 .1 .1 .0 in (
       finished-as (v .set) (t .finished),
-      c .before .before .clear-work .ensures
-          ∙ rest-cleared (a .w) (a .h) p (now (a .image)) (now (a .work)) _ w q (s .pre .0 .image ∙ sym q) (c .before .before .before .before .before .before .before .before .before .before .before .before .before .before .before .before .before .copy .ensures) (t .rest),
+      at-clear-work .clear-work .ensures
+          ∙ rest-cleared (a .w) (a .h) p (now (a .image)) (now (a .work)) _ w q (s .pre .0 .image ∙ sym q) (at-copy .copy .ensures) (t .rest),
     )
 
 pub decompose-into-spec : {M : Type 1} → statement M

@@ -6,8 +6,13 @@ use Rattle.decomposition.proofs.TurnLaws.{turn-done}
 use Rattle.decomposition.proofs.turn.Statement.{statement}
 use Rattle.decomposition.proofs.turn.Tie as tie
 
+abbrev start : tie.After-open-plane-arg → tie.Start
+start c = c .before .before .before
+
 open-plane-requires : tie.Need-open-plane-requires
-open-plane-requires c κs = let s = c .before .before .before in (s .pre .0, s .pre .1, s .pre .2, element-bit (s .args .element) (s .pre .4), s .pre .5)
+open-plane-requires c κs =
+    let s = start c in
+    (s .pre .frame, s .pre .apart, s .pre .planes, element-bit (s .args .element) (s .pre .element), s .pre .clean)
 
 add-label-plane : tie.Need-add-label-plane
 add-label-plane c = search needs
@@ -29,9 +34,13 @@ same-length-2 c = search needs
 
 returns : tie.Need-returns
 returns c =
-    let s = c .before .before .before .before .before .before .before .before .before .before .before .before .before .before .before in
+    let at-copy-down = c .before .before in
+    let at-label-plane = at-copy-down .before .before .before .before in
+    let at-open-plane = at-label-plane .before .before .before .before .before in
+    let s = start (at-open-plane .before) in
     let a = s .args in
-    turn-done (a .w) (a .h) (a .r) (a .p) (a .element) (now (a .work)) (s .pre .0) (s .pre .1) (s .pre .2) _ _ (now (a .labels)) _ (a .v) _ (c .before .before .before .before .before .before .before .before .before .before .before .open-plane .ensures) (c .before .before .before .before .before .before .label-plane .ensures) (c .before .before .copy-down .ensures)
+    turn-done (a .w) (a .h) (a .r) (a .p) (a .element) (now (a .work)) (s .pre .frame) (s .pre .apart) (s .pre .planes) _ _ (now (a .labels)) _ (a .v) _
+    (at-open-plane .open-plane .ensures) (at-label-plane .label-plane .ensures) (at-copy-down .copy-down .ensures)
 
 pub turn-spec : {M : Type 1} → statement M
 turn-spec =

@@ -25,7 +25,9 @@ same-length : tie.Need-same-length
 same-length c = search needs
 
 returns : tie.Need-returns
-returns c = let s = c .before .before .before .before .before in three-cleared (3 * s .args .p) (now (s .args .work)) _ (c .before .before .fill .ensures) (omega (arith, s .pre .0))
+returns c =
+    let s = c .before .before .before .before .before in three-cleared (3 * s .args .p) (now (s .args .work)) _ (c .before .before .fill .ensures)
+    (omega (arith, s .pre .0))
 
 pub clear-work-spec : {M : Type 1} → statement M
 clear-work-spec =

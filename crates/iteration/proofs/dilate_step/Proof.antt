@@ -7,7 +7,9 @@ use Rattle.iteration.proofs.dilate_step.Statement.{statement}
 use Rattle.iteration.proofs.dilate_step.Tie as tie
 
 dilate-plane-requires : tie.Need-dilate-plane-requires
-dilate-plane-requires c κs = let s = c .before .before in (s .pre .0 .frame, omega (arith, s .pre .0 .plane), omega (arith, s .pre .0 .plane, s .pre .1), s .pre .2)
+dilate-plane-requires c κs =
+    let s = c .before .before in
+    (s .pre .0 .frame, omega (arith, s .pre .0 .plane), omega (arith, s .pre .0 .plane, s .pre .1), s .pre .2)
 
 copy-down-requires : tie.Need-copy-down-requires
 copy-down-requires c κs = search needs
@@ -17,9 +19,12 @@ same-length c = search needs
 
 returns : tie.Need-returns
 returns c =
-    let s = c .before .before .before .before .before .before .before .before .before in
+    let at-copy-down = c .before .before in
+    let at-dilate-plane = at-copy-down .before .before .before .before in
+    let s = at-dilate-plane .before .before .before in
     let a = s .args in
-    step-done (a .w) (a .h) (a .p) _ (now (a .work)) (c .before .before .before .before .before .before .dilate-plane .last .1 .1 .1 .1 .1 .0) _ (sheet-bytes (s .pre .0)) (s .pre .1) (c .before .before .before .before .before .before .dilate-plane .ensures) (c .before .before .copy-down .ensures)
+    step-done (a .w) (a .h) (a .p) _ (now (a .work)) (at-dilate-plane .dilate-plane .last .1 .1 .1 .1 .1 .0) _ (sheet-bytes (s .pre .0)) (s .pre .1)
+    (at-dilate-plane .dilate-plane .ensures) (at-copy-down .copy-down .ensures)
 
 pub dilate-step-spec : {M : Type 1} → statement M
 dilate-step-spec =

@@ -19,11 +19,16 @@ Inv-loop w h r p element n work₀ j₀ work j = (j ≤ n) × First w h p (dilat
 abbrev μ-loop : tie.MeasureT-loop
 μ-loop w h r p element n work₀ j₀ work j = n - j
 
+abbrev start : tie.At-loop Inv-loop μ-loop → tie.Start Inv-loop μ-loop
+start c = c .before .before .before .before .before
+
 slice-reshare-prefix-has-ink : tie.Need-slice-reshare-prefix-has-ink Inv-loop μ-loop
 slice-reshare-prefix-has-ink c = omega (arith, c .before .pre .1)
 
 slice-aggregate-has-ink : tie.Need-slice-aggregate-has-ink Inv-loop μ-loop
-slice-aggregate-has-ink c = sym (length-take-le (c .before .before .args .p) (now (c .before .before .args .work)) (omega (arith, c .before .before .pre .1)))
+slice-aggregate-has-ink c =
+    let s = c .before .before in
+    sym (length-take-le (s .args .p) (now (s .args .work)) (omega (arith, s .pre .1)))
 
 has-ink-requires : tie.Need-has-ink-requires Inv-loop μ-loop
 has-ink-requires c κs = tt
@@ -33,28 +38,34 @@ same-length c = refl
 
 returns : tie.Need-returns Inv-loop μ-loop
 returns c =
-    let s = c .before .before .before .before in
+    let at-slice-known = c .before .before .before in
+    let s = at-slice-known .before in
     let a = s .args in
     let X = imageSet (a .w) (a .h) (now (a .work)) in
     let q = sheet-bytes (s .pre .0) in
-    dilated-rest (a .w) (a .h) (a .p) (offsets (a .element)) (a .n) X (now (a .work)) (now (a .work)) q (image-on (a .w) (a .h) (now (a .work))) (omega (arith, s .pre .1))
-    (first-start (a .w) (a .h) (a .p) (now (a .work)) q (s .pre .1) (λ i. c .before .before .before .slice-known .given i .fits) (s .pre .2)) (sym (c .before .has-ink .ensures) ∙ not-true _ (c .if1 .taken))
+    dilated-rest (a .w) (a .h) (a .p) (offsets (a .element)) (a .n) X (now (a .work)) (now (a .work)) q (image-on (a .w) (a .h) (now (a .work)))
+    (omega (arith, s .pre .1))
+    (first-start (a .w) (a .h) (a .p) (now (a .work)) q (s .pre .1) (λ i. at-slice-known .slice-known .given i .fits) (s .pre .2))
+    (sym (c .before .has-ink .ensures) ∙ not-true _ (c .if1 .taken))
 
 loop-holds : tie.Need-loop-holds Inv-loop μ-loop
 loop-holds c =
-    let s = c .before .before .before .before in
+    let at-slice-known = c .before .before .before in
+    let s = at-slice-known .before in
     let a = s .args in
     let X = imageSet (a .w) (a .h) (now (a .work)) in (
       omega arith,
       dilated-start (a .w) (a .h) (a .p) (offsets (a .element)) X (now (a .work)) (now (a .work))
-          (first-start (a .w) (a .h) (a .p) (now (a .work)) (sheet-bytes (s .pre .0)) (s .pre .1) (λ i. c .before .before .before .slice-known .given i .fits) (s .pre .2)),
+          (first-start (a .w) (a .h) (a .p) (now (a .work)) (sheet-bytes (s .pre .0)) (s .pre .1) (λ i. at-slice-known .slice-known .given i .fits)
+          (s .pre .2)),
     )
 
 dilate-step-requires : tie.Need-dilate-step-requires Inv-loop μ-loop
 dilate-step-requires c κs =
-    let s = c .before .before .before .before .before .before .before in
+    let at-loop = c .before .before in
+    let s = start at-loop in
     let a = s .args in
-    let l = c .before .before .loop in
+    let l = at-loop .loop in
     let X = imageSet (a .w) (a .h) (now (a .work)) in (
       s .pre .0,
       omega (arith, l .inv .1 .size, s .pre .1),
@@ -69,13 +80,16 @@ loop-less c = omega arith
 
 loop-again : tie.Need-loop-again Inv-loop μ-loop
 loop-again c =
-    let s = c .before .before .before .before .before .before .before .before .before .before in
+    let at-dilate-step = c .before .before in
+    let at-loop = at-dilate-step .before .before .before in
+    let s = start at-loop in
     let a = s .args in
-    let l = c .before .before .before .before .before .loop in
+    let l = at-loop .loop in
     let X = imageSet (a .w) (a .h) (now (a .work)) in (
       omega arith,
-      dilated-more (a .w) (a .h) (a .p) (offsets (a .element)) (l .j) X (now (a .work)) (l .work) _ (sheet-bytes (s .pre .0)) (image-on (a .w) (a .h) (now (a .work))) (l .inv .1)
-          (c .before .before .dilate-step .ensures),
+      dilated-more (a .w) (a .h) (a .p) (offsets (a .element)) (l .j) X (now (a .work)) (l .work) _ (sheet-bytes (s .pre .0))
+          (image-on (a .w) (a .h) (now (a .work))) (l .inv .1)
+          (at-dilate-step .dilate-step .ensures),
     )
 
 same-length-2 : tie.Need-same-length-2 Inv-loop μ-loop
@@ -83,10 +97,12 @@ same-length-2 c = c .before .loop .inv .1 .size
 
 returns-2 : tie.Need-returns-2 Inv-loop μ-loop
 returns-2 c =
-    let a = c .before .before .before .before .before .before .args in
+    let s = start (c .before) in
+    let a = s .args in
     let l = c .before .loop in
     let e : l .j ≡ a .n = omega arith in
-    subst (λ (k : ℕ). First (a .w) (a .h) (a .p) (dilated (a .w) (a .h) (offsets (a .element)) k (imageSet (a .w) (a .h) (now (a .work)))) (now (a .work)) (l .work)) e (l .inv .1)
+    subst (λ (k : ℕ). First (a .w) (a .h) (a .p) (dilated (a .w) (a .h) (offsets (a .element)) k (imageSet (a .w) (a .h) (now (a .work)))) (now (a .work))
+    (l .work)) e (l .inv .1)
 
 pub dilate-times-spec : {M : Type 1} → statement M
 dilate-times-spec =

@@ -21,6 +21,9 @@ Inv-loop w h r p element n work₀ i₀ work i = (i ≤ n) × First w h p (erode
 abbrev μ-loop : tie.MeasureT-loop
 μ-loop w h r p element n work₀ i₀ work i = n - i
 
+abbrev to-at-loop : tie.After-has-ink Inv-loop μ-loop → tie.At-loop Inv-loop μ-loop
+to-at-loop c = c .before .before .before
+
 loop-holds : tie.Need-loop-holds Inv-loop μ-loop
 loop-holds c =
     let s = c .before in
@@ -32,36 +35,47 @@ loop-holds c =
     )
 
 slice-reshare-prefix-has-ink : tie.Need-slice-reshare-prefix-has-ink Inv-loop μ-loop
-slice-reshare-prefix-has-ink c = omega (arith, c .before .loop .inv .1 .size, c .before .before .before .pre .1)
+slice-reshare-prefix-has-ink c =
+    let s = c .before .before .before in
+    omega (arith, c .before .loop .inv .1 .size, s .pre .1)
 
 slice-aggregate-has-ink : tie.Need-slice-aggregate-has-ink Inv-loop μ-loop
-slice-aggregate-has-ink c = sym (length-take-le (c .before .before .before .before .args .p) (c .before .before .loop .work) (omega (arith, c .before .before .loop .inv .1 .size, c .before .before .before .before .pre .1)))
+slice-aggregate-has-ink c =
+    let at-loop = c .before .before in
+    let s = at-loop .before .before in
+    sym (length-take-le (s .args .p) (at-loop .loop .work) (omega (arith, at-loop .loop .inv .1 .size, s .pre .1)))
 
 has-ink-requires : tie.Need-has-ink-requires Inv-loop μ-loop
 has-ink-requires c κs = tt
 
 same-length : tie.Need-same-length Inv-loop μ-loop
-same-length c = c .before .before .before .before .loop .inv .1 .size
+same-length c =
+    let at-loop = to-at-loop (c .before) in
+    at-loop .loop .inv .1 .size
 
 returns : tie.Need-returns Inv-loop μ-loop
 returns c =
-    let s = c .before .before .before .before .before .before in
+    let at-loop = to-at-loop (c .before) in
+    let s = at-loop .before .before in
     let a = s .args in
-    let l = c .before .before .before .before .loop in
+    let l = at-loop .loop in
     let X = imageSet (a .w) (a .h) (now (a .work)) in
-    eroded-rest (a .w) (a .h) (a .p) (a .element) (s .pre .2) (sheet-bytes (s .pre .0)) X (image-on (a .w) (a .h) (now (a .work))) (now (a .work)) (l .work) (l .i) (a .n) (omega arith)
+    eroded-rest (a .w) (a .h) (a .p) (a .element) (s .pre .2) (sheet-bytes (s .pre .0)) X (image-on (a .w) (a .h) (now (a .work))) (now (a .work)) (l .work)
+    (l .i) (a .n) (omega arith)
     (omega (arith, l .inv .1 .size, s .pre .1)) (l .inv .1) (sym (c .before .has-ink .ensures) ∙ not-true _ (c .if1 .taken))
 
 erode-step-requires : tie.Need-erode-step-requires Inv-loop μ-loop
 erode-step-requires c κs =
-    let s = c .before .before .before .before .before .before .before in
+    let at-loop = to-at-loop (c .before .before) in
+    let s = at-loop .before .before in
     let a = s .args in
-    let l = c .before .before .before .before .before .loop in
+    let l = at-loop .loop in
     let X = imageSet (a .w) (a .h) (now (a .work)) in (
       s .pre .0,
       omega (arith, l .inv .1 .size, s .pre .1),
       s .pre .2,
-      eroded-clean (a .w) (a .h) (a .p) (a .element) (s .pre .2) (sheet-bytes (s .pre .0)) X (image-on (a .w) (a .h) (now (a .work))) (now (a .work)) (l .work) (l .i) (l .inv .1),
+      eroded-clean (a .w) (a .h) (a .p) (a .element) (s .pre .2) (sheet-bytes (s .pre .0)) X (image-on (a .w) (a .h) (now (a .work))) (now (a .work)) (l .work)
+          (l .i) (l .inv .1),
     )
 
 add-i : tie.Need-add-i Inv-loop μ-loop
@@ -72,13 +86,16 @@ loop-less c = omega arith
 
 loop-again : tie.Need-loop-again Inv-loop μ-loop
 loop-again c =
-    let s = c .before .before .before .before .before .before .before .before .before .before in
+    let at-erode-step = c .before .before in
+    let at-loop = to-at-loop (at-erode-step .before .before .before) in
+    let s = at-loop .before .before in
     let a = s .args in
-    let l = c .before .before .before .before .before .before .before .before .loop in
+    let l = at-loop .loop in
     let X = imageSet (a .w) (a .h) (now (a .work)) in (
       omega arith,
-      eroded-more (a .w) (a .h) (a .p) (a .element) (s .pre .2) (sheet-bytes (s .pre .0)) X (image-on (a .w) (a .h) (now (a .work))) (now (a .work)) (l .work) (l .i) _ (l .inv .1)
-          (c .before .before .erode-step .ensures),
+      eroded-more (a .w) (a .h) (a .p) (a .element) (s .pre .2) (sheet-bytes (s .pre .0)) X (image-on (a .w) (a .h) (now (a .work))) (now (a .work)) (l .work)
+          (l .i) _ (l .inv .1)
+          (at-erode-step .erode-step .ensures),
     )
 
 same-length-2 : tie.Need-same-length-2 Inv-loop μ-loop
@@ -86,10 +103,12 @@ same-length-2 c = c .before .loop .inv .1 .size
 
 returns-2 : tie.Need-returns-2 Inv-loop μ-loop
 returns-2 c =
-    let a = c .before .before .before .args in
+    let s = c .before .before .before in
+    let a = s .args in
     let l = c .before .loop in
     let e : l .i ≡ a .n = omega arith in
-    subst (λ (k : ℕ). First (a .w) (a .h) (a .p) (erode (times (offsets (a .element)) k) (imageSet (a .w) (a .h) (now (a .work)))) (now (a .work)) (l .work)) e (l .inv .1)
+    subst (λ (k : ℕ). First (a .w) (a .h) (a .p) (erode (times (offsets (a .element)) k) (imageSet (a .w) (a .h) (now (a .work)))) (now (a .work)) (l .work)) e
+    (l .inv .1)
 
 pub erode-times-spec : {M : Type 1} → statement M
 erode-times-spec =

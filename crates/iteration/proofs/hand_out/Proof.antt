@@ -23,7 +23,8 @@ slice-aggregate-copy : tie.Need-slice-aggregate-copy
 slice-aggregate-copy c = sym (length-take-le _ _ (search needs))
 
 copy-requires : tie.Need-copy-requires
-copy-requires c κs = let s = c .before .before .before .before .before .before in length-take-le (s .args .p) (now (s .args .work)) (search needs) ∙ sym (s .pre .1)
+copy-requires c κs =
+    let s = c .before .before .before .before .before .before in length-take-le (s .args .p) (now (s .args .work)) (search needs) ∙ sym (s .pre .1)
 
 clear-work-requires : tie.Need-clear-work-requires
 clear-work-requires c κs = search needs

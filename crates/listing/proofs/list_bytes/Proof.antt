@@ -11,14 +11,23 @@ use borrow.Author.Needs.{needs}
 use Rattle.listing.proofs.list_bytes.Statement.{statement}
 use Rattle.listing.proofs.list_bytes.Tie as tie
 
+abbrev start : tie.After-slice-known3 → tie.Start
+start c = c .before .before .before .before
+
 put-refusal-requires : tie.Need-put-refusal-requires
-put-refusal-requires c κs = refusal-room (omega arith) (c .before .before .before .before .before .before .pre .2)
+put-refusal-requires c κs =
+    let s = start (c .before .before) in
+    refusal-room (omega arith) (s .pre .2)
 
 same-length : tie.Need-same-length
 same-length c = search needs
 
 returns : tie.Need-returns
-returns c = appended-as (sym (printed-short (now (c .before .before .before .before .before .before .before .before .before .args .input)) (c .before .before .before .before .if1 .taken))) (c .before .before .put-refusal .ensures)
+returns c =
+    let at-put-refusal = c .before .before in
+    let then1 = at-put-refusal .before .before in
+    let s = start (then1 .before) in
+    appended-as (sym (printed-short (now (s .args .input)) (then1 .if1 .taken))) (at-put-refusal .put-refusal .ensures)
 
 number-requires : tie.Need-number-requires
 number-requires c κs = search needs
@@ -52,8 +61,12 @@ same-length-4 c = search needs
 
 returns-2 : tie.Need-returns-2
 returns-2 c =
-    let i = now (c .before .before .before .before .before .before .before .before .before .before .before .before .before .before .before .before .before .before .before .args .input) in
-    appended-as (printed-part i (length i - 6) (c .before .before .before .before .before .before .before .before .before .before .before .before .before .number .result) (omega arith) (omega arith) (c .before .before .before .before .before .before .before .before .before .before .before .before .before .number .ensures)) (c .before .before .before .before .before .before .list-image .ensures)
+    let at-list-image = c .before .before .before .before .before .before in
+    let at-number = at-list-image .before .before .before .before .before .before .before in
+    let s = start (at-number .before .before) in
+    let i = now (s .args .input) in
+    appended-as (printed-part i (length i - 6) (at-number .number .result) (omega arith) (omega arith) (at-number .number .ensures))
+    (at-list-image .list-image .ensures)
 
 pub list-bytes-spec : {M : Type 1} → statement M
 list-bytes-spec =

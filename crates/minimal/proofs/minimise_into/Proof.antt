@@ -10,8 +10,22 @@ use Rattle.minimal.proofs.MinimiseLaws.{passed-begun, passed-cleared, p
 use Rattle.minimal.proofs.minimise_into.Statement.{statement}
 use Rattle.minimal.proofs.minimise_into.Tie as tie
 
+abbrev start : tie.After-count-up-arg3 → tie.Start
+start c = c .before .before .before .before .before .before .before .before .before
+
+abbrev to-walk : tie.After-clear-work-arg → tie.After-walk
+to-walk c = c .before .before .before .before .before .before .before .before .before .before .before
+
+abbrev to-count-up : tie.After-walk-arg3 → tie.After-count-up
+to-count-up c = c .before .before .before .before .before .before .before
+
+abbrev to-slice-known4 : tie.After-count-up-arg3 → tie.After-slice-known4
+to-slice-known4 c = c .before .before .before
+
 add-r : tie.Need-add-r
-add-r c = omega (arith, c .before .before .before .pre .across)
+add-r c =
+    let s = c .before .before .before in
+    omega (arith, s .pre .across)
 
 mul-p : tie.Need-mul-p
 mul-p c =
@@ -21,7 +35,10 @@ mul-p c =
     omega (arith, sheet-small (passed-sheet (a .w) (a .h) (a .element) (now (a .labels)) (now (a .work)) (now (a .counters)) (s .pre)))
 
 tallest-requires : tie.Need-tallest-requires
-tallest-requires c κs = let s = c .before .before .before .before in let a = s .args in passed-some (a .w) (a .h) (a .element) (now (a .labels)) (now (a .work)) (now (a .counters)) (s .pre)
+tallest-requires c κs =
+    let s = c .before .before .before .before in
+    let a = s .args in
+    passed-some (a .w) (a .h) (a .element) (now (a .labels)) (now (a .work)) (now (a .counters)) (s .pre)
 
 slice-read-top : tie.Need-slice-read-top
 slice-read-top c = c .before .tallest .ensures .0
@@ -31,33 +48,55 @@ cast-top c = omega (arith, c .slice-known4 .given (c .before .tallest .result))
 
 count-up-requires : tie.Need-count-up-requires
 count-up-requires c κs =
-    let s = c .before .before .before .before .before .before .before .before .before in
+    let at-slice-known4 = to-slice-known4 c in
+    let at-tallest = at-slice-known4 .before in
+    let s = start c in
     let a = s .args in
-    let t = c .before .before .before .before .tallest in
-    (passed-begun (a .w) (a .h) (a .element) (now (a .labels)) (now (a .work)) (now (a .counters)) (s .pre) (t .result) (now (a .work)) (t .ensures .0) (t .ensures .1) (omega (arith, c .before .before .before .slice-known4 .given (t .result))) refl, s .pre .counters)
+    let t = at-tallest .tallest in (
+      passed-begun (a .w) (a .h) (a .element) (now (a .labels)) (now (a .work)) (now (a .counters)) (s .pre) (t .result) (now (a .work)) (t .ensures .0)
+          (t .ensures .1) (omega (arith, at-slice-known4 .slice-known4 .given (t .result))) refl,
+      s .pre .counters,
+    )
 
 walk-requires : tie.Need-walk-requires
 walk-requires c κs =
-    let s = c .before .before .before .before .before .before .before .before .before .before .before .before .before .before .before .before .before in
+    let at-count-up = to-count-up c in
+    let at-slice-known4 = to-slice-known4 (at-count-up .before) in
+    let at-tallest = at-slice-known4 .before in
+    let s = start (at-count-up .before) in
     let a = s .args in
-    let t = c .before .before .before .before .before .before .before .before .before .before .before .before .tallest in
-    let u = c .before .before .before .before .before .before .before .count-up .ensures in
-    (passed-begun (a .w) (a .h) (a .element) (now (a .labels)) (now (a .work)) (now (a .counters)) (s .pre) (t .result) _ (t .ensures .0) (t .ensures .1) (omega (arith, c .before .before .before .before .before .before .before .before .before .before .before .slice-known4 .given (t .result))) (u .1 .size), u .0)
+    let t = at-tallest .tallest in
+    let u = at-count-up .count-up .ensures in (
+      passed-begun (a .w) (a .h) (a .element) (now (a .labels)) (now (a .work)) (now (a .counters)) (s .pre) (t .result) _ (t .ensures .0) (t .ensures .1)
+          (omega (arith, at-slice-known4 .slice-known4 .given (t .result))) (u .1 .size),
+      u .0,
+    )
 
 clear-requires : tie.Need-clear-requires
 clear-requires c κs = search needs
 
 clear-work-requires : tie.Need-clear-work-requires
 clear-work-requires c κs =
-    let s = c .before .before .before .before .before .before .before .before .before .before .before .before .before .before .before .before .before .before .before .before .before .before .before .before .before .before .before .before .before in
-    let a = s .args in
-    (passed-planes (a .w) (a .h) (a .element) (now (a .labels)) (now (a .work)) (now (a .counters)) (s .pre) _ _ (c .before .before .before .before .before .before .before .before .before .before .before .before .before .before .before .before .before .before .before .count-up .ensures .1) (c .before .before .before .before .before .before .before .before .before .before .before .walk .ensures .1), sheet-small (passed-sheet (a .w) (a .h) (a .element) (now (a .labels)) (now (a .work)) (now (a .counters)) (s .pre)))
+    let at-walk = to-walk c in
+    let at-count-up = to-count-up (at-walk .before) in
+    let s = start (at-count-up .before) in
+    let a = s .args in (
+      passed-planes (a .w) (a .h) (a .element) (now (a .labels)) (now (a .work)) (now (a .counters)) (s .pre) _ _ (at-count-up .count-up .ensures .1)
+          (at-walk .walk .ensures .1),
+      sheet-small (passed-sheet (a .w) (a .h) (a .element) (now (a .labels)) (now (a .work)) (now (a .counters)) (s .pre)),
+    )
 
 points-of-requires : tie.Need-points-of-requires
 points-of-requires c κs =
-    let s = c .before .before .before .before .before .before .before .before .before .before .before .before .before .before .before .before .before .before .before .before .before .before .before .before .before .before .before .before .before .before .before .before .before in
+    let at-walk = to-walk (c .before .before .before .before) in
+    let s = start (at-walk .before .before .before .before .before .before .before .before .before) in
     let a = s .args in
-    omega (arith, c .before .before .before .before .before .before .before .before .before .before .before .before .before .before .before .walk .kept .1 .1 .1 .1 .1 .1 .1 .0, s .pre .places, passed-few (a .w) (a .h) (a .element) (now (a .labels)) (now (a .work)) (now (a .counters)) (s .pre))
+    omega (
+      arith,
+      at-walk .walk .kept .1 .1 .1 .1 .1 .1 .1 .0,
+      s .pre .places,
+      passed-few (a .w) (a .h) (a .element) (now (a .labels)) (now (a .work)) (now (a .counters)) (s .pre),
+    )
 
 same-length : tie.Need-same-length
 same-length c = search needs
@@ -70,15 +109,21 @@ same-length-3 c = search needs
 
 returns : tie.Need-returns
 returns c =
-    let s = c .before .before .before .before .before .before .before .before .before .before .before .before .before .before .before .before .before .before .before .before .before .before .before .before .before .before .before .before .before .before .before .before .before .before in
+    let at-clear-work = c .before .before .before .before in
+    let at-clear = at-clear-work .before .before .before .before in
+    let at-walk = to-walk (at-clear-work .before) in
+    let at-count-up = to-count-up (at-walk .before) in
+    let s = start (at-count-up .before) in
     let a = s .args in
-    let w = c .before .before .before .before .before .before .before .before .before .before .before .before .before .before .before .before .walk in
-    let u = c .before .before .before .before .before .before .before .before .before .before .before .before .before .before .before .before .before .before .before .before .before .before .before .before .count-up in
+    let w = at-walk .walk in
+    let u = at-count-up .count-up in
     record {
       labels = w .ensures .0;
       points = c .points-of .ensures;
-      work = passed-cleared (a .w) (a .h) (a .element) (now (a .labels)) (now (a .work)) (now (a .counters)) (s .pre) _ _ _ (u .ensures .1) (w .ensures .1) (c .before .before .before .before .clear-work .ensures);
-      counters = c .before .before .before .before .before .before .before .before .clear .ensures ∙ ap (λ (n : ℕ). replicate n 0) (w .kept .1 .1 .1 .1 .1 .1 .1 .1 .1 .0 ∙ u .kept .1 .1 .1 .1 .1 .1 .1 .1 .1 .0 ∙ s .pre .counters);
+      work = passed-cleared (a .w) (a .h) (a .element) (now (a .labels)) (now (a .work)) (now (a .counters)) (s .pre) _ _ _ (u .ensures .1) (w .ensures .1)
+          (at-clear-work .clear-work .ensures);
+      counters = at-clear .clear .ensures ∙ ap (λ (n : ℕ). replicate n 0)
+          (w .kept .1 .1 .1 .1 .1 .1 .1 .1 .1 .0 ∙ u .kept .1 .1 .1 .1 .1 .1 .1 .1 .1 .0 ∙ s .pre .counters);
     }
 
 pub minimise-into-spec : {M : Type 1} → statement M

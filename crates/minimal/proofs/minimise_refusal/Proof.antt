@@ -10,6 +10,9 @@ use Rattle.minimal.proofs.MinimiseLaws.{shape-is, shaped, shapeRows}
 use Rattle.minimal.proofs.minimise_refusal.Statement.{statement}
 use Rattle.minimal.proofs.minimise_refusal.Tie as tie
 
+abbrev start : tie.After-not-places → tie.Start
+start c = c .before .before .before .before
+
 not-places-requires : tie.Need-not-places-requires
 not-places-requires c κs = search needs
 
@@ -24,14 +27,25 @@ shape-rows-requires c κs = search needs
 
 returns : tie.Need-returns
 returns c =
-    let a = c .before .before .before .before .before .before .before .before .args in
-    let e = shape-is (a .w) (a .h) (a .element) (now (a .labels)) (now (a .work)) (now (a .counters)) _ _ _ _ (c .before .before .before .before .not-places .ensures) (c .before .before .before .short-work .ensures) (c .before .before .not-counters .ensures) (c .before .shape-rows .ensures) in
-    first-refused (shapeRows (a .w) (a .h) (a .element) (now (a .labels)) (now (a .work)) (now (a .counters))) (row5 (a .w) (a .h) (offsets (a .element)) 0 (now (a .labels)) ∷ []) _ tt e (c .if1 .taken)
+    let at-not-counters = c .before .before in
+    let at-short-work = at-not-counters .before in
+    let at-not-places = at-short-work .before in
+    let s = start at-not-places in
+    let a = s .args in
+    let e = shape-is (a .w) (a .h) (a .element) (now (a .labels)) (now (a .work)) (now (a .counters)) _ _ _ _ (at-not-places .not-places .ensures)
+    (at-short-work .short-work .ensures) (at-not-counters .not-counters .ensures) (c .before .shape-rows .ensures) in
+    first-refused (shapeRows (a .w) (a .h) (a .element) (now (a .labels)) (now (a .work)) (now (a .counters)))
+    (row5 (a .w) (a .h) (offsets (a .element)) 0 (now (a .labels)) ∷ []) _ tt e (c .if1 .taken)
 
 is-wild-requires : tie.Need-is-wild-requires
 is-wild-requires c κs =
-    let a = c .before .before .before .before .before .before .before .before .args in
-    let e = shape-is (a .w) (a .h) (a .element) (now (a .labels)) (now (a .work)) (now (a .counters)) _ _ _ _ (c .before .before .before .before .not-places .ensures) (c .before .before .before .short-work .ensures) (c .before .before .not-counters .ensures) (c .before .shape-rows .ensures) in
+    let at-not-counters = c .before .before in
+    let at-short-work = at-not-counters .before in
+    let at-not-places = at-short-work .before in
+    let s = start at-not-places in
+    let a = s .args in
+    let e = shape-is (a .w) (a .h) (a .element) (now (a .labels)) (now (a .work)) (now (a .counters)) _ _ _ _ (at-not-places .not-places .ensures)
+    (at-short-work .short-work .ensures) (at-not-counters .not-counters .ensures) (c .before .shape-rows .ensures) in
     shaped (a .w) (a .h) (a .element) (now (a .labels)) (now (a .work)) (now (a .counters)) (sym e ∙ c .if1 .left)
 
 row-requires : tie.Need-row-requires
@@ -39,9 +53,17 @@ row-requires c κs = search needs
 
 returns-2 : tie.Need-returns-2
 returns-2 c =
-    let a = c .before .before .before .before .before .before .before .before .before .before .args in
-    let e = shape-is (a .w) (a .h) (a .element) (now (a .labels)) (now (a .work)) (now (a .counters)) _ _ _ _ (c .before .before .before .before .before .before .not-places .ensures) (c .before .before .before .before .before .short-work .ensures) (c .before .before .before .before .not-counters .ensures) (c .before .before .before .shape-rows .ensures) in
-    first-passed (shapeRows (a .w) (a .h) (a .element) (now (a .labels)) (now (a .work)) (now (a .counters))) (row5 (a .w) (a .h) (offsets (a .element)) 0 (now (a .labels)) ∷ []) _ _ tt e (c .before .before .if1 .left)
+    let else1 = c .before .before in
+    let at-shape-rows = else1 .before in
+    let at-not-counters = at-shape-rows .before in
+    let at-short-work = at-not-counters .before in
+    let at-not-places = at-short-work .before in
+    let s = start at-not-places in
+    let a = s .args in
+    let e = shape-is (a .w) (a .h) (a .element) (now (a .labels)) (now (a .work)) (now (a .counters)) _ _ _ _ (at-not-places .not-places .ensures)
+    (at-short-work .short-work .ensures) (at-not-counters .not-counters .ensures) (at-shape-rows .shape-rows .ensures) in
+    first-passed (shapeRows (a .w) (a .h) (a .element) (now (a .labels)) (now (a .work)) (now (a .counters)))
+    (row5 (a .w) (a .h) (offsets (a .element)) 0 (now (a .labels)) ∷ []) _ _ tt e (else1 .if1 .left)
     (first-row 5 (c .before .is-wild .ensures) (c .row .ensures))
 
 pub minimise-refusal-spec : {M : Type 1} → statement M

@@ -38,8 +38,13 @@ mul-at c =
     let s = start at-loop in
     let a = s .args in
     let l = at-loop .loop in
-    omega
-    (arith, column-room (a .dilating) (l .k) (a .r) (c .reflect .result) (c .before .loop-test .taken) (c .reflect .ensures), s .pre .0, s .pre .1, l .inv .2 .size)
+    omega (
+      arith,
+      column-room (a .dilating) (l .k) (a .r) (c .reflect .result) (c .before .loop-test .taken) (c .reflect .ensures),
+      s .pre .0,
+      s .pre .1,
+      l .inv .2 .size,
+    )
 
 add-join-if : tie.Need-add-join-if Inv-loop μ-loop
 add-join-if c =
@@ -47,8 +52,13 @@ add-join-if c =
     let s = start at-loop in
     let a = s .args in
     let l = at-loop .loop in
-    omega
-    (arith, column-room (a .dilating) (l .k) (a .r) (c .reflect .result) (c .before .loop-test .taken) (c .reflect .ensures), s .pre .0, s .pre .1, l .inv .2 .size)
+    omega (
+      arith,
+      column-room (a .dilating) (l .k) (a .r) (c .reflect .result) (c .before .loop-test .taken) (c .reflect .ensures),
+      s .pre .0,
+      s .pre .1,
+      l .inv .2 .size,
+    )
 
 sub-join-if : tie.Need-sub-join-if Inv-loop μ-loop
 sub-join-if c = omega arith
@@ -62,8 +72,13 @@ part-join-if-end c =
     let s = start at-loop in
     let a = s .args in
     let l = at-loop .loop in
-    omega
-    (arith, column-room (a .dilating) (l .k) (a .r) (c .reflect .result) (c .before .loop-test .taken) (c .reflect .ensures), s .pre .0, s .pre .1, l .inv .2 .size)
+    omega (
+      arith,
+      column-room (a .dilating) (l .k) (a .r) (c .reflect .result) (c .before .loop-test .taken) (c .reflect .ensures),
+      s .pre .0,
+      s .pre .1,
+      l .inv .2 .size,
+    )
 
 join-if-requires : tie.Need-join-if-requires Inv-loop μ-loop
 join-if-requires c κs =

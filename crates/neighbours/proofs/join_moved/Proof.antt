@@ -60,8 +60,12 @@ move-strip-requires : tie.Need-move-strip-requires
 move-strip-requires c κs =
     let at-reflect = c .before in
     let s = start at-reflect in
-    let t = turned-lt (s .args .dilating) (s .args .j) (s .pre .0) in
-    (record { least = omega (arith, at-reflect .reflect .ensures, t); most = omega (arith, at-reflect .reflect .ensures, t) }, s .pre .1 .stride, s .pre .1 .near, s .pre .1 .moved)
+    let t = turned-lt (s .args .dilating) (s .args .j) (s .pre .0) in (
+      record { least = omega (arith, at-reflect .reflect .ensures, t); most = omega (arith, at-reflect .reflect .ensures, t) },
+      s .pre .1 .stride,
+      s .pre .1 .near,
+      s .pre .1 .moved,
+    )
 
 join-column-requires : tie.Need-join-column-requires
 join-column-requires c κs =

@@ -119,7 +119,8 @@ returns c =
     let l = c .before .loop in
     let e : l .y ≡ a .h = omega arith in
     subst
-    (λ (n : ℕ). PlaneJoined (a .dilating) (a .p) (a .r) n (now (a .work)) (l .work) (λ y x. neighbours (a .dilating) (a .element) (sourceBit (a .inverse) (source (a .own) (now (a .image)) (now (a .work))) (a .r) (a .h)) x y))
+    (λ (n : ℕ). PlaneJoined (a .dilating) (a .p) (a .r) n (now (a .work)) (l .work)
+    (λ y x. neighbours (a .dilating) (a .element) (sourceBit (a .inverse) (source (a .own) (now (a .image)) (now (a .work))) (a .r) (a .h)) x y))
     e (l .inv .1)
 
 pub join-plane-spec : {M : Type 1} → statement M

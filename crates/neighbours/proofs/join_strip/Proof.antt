@@ -24,16 +24,29 @@ start c = c .before .before .before
 loop-holds : tie.Need-loop-holds Inv-loop μ-loop
 loop-holds c =
     let s = start c in
-    let a = s .args in
-    (omega arith, omega arith, refl, strip-none (a .dilating) (a .r) (a .n) (now (a .dst)) (columnAsks (a .dilating) (a .element) (stripBit (a .inverse) (now (a .buf)) (a .r))))
+    let a = s .args in (
+      omega arith,
+      omega arith,
+      refl,
+      strip-none (a .dilating) (a .r) (a .n) (now (a .dst))
+          (columnAsks (a .dilating) (a .element) (stripBit (a .inverse) (now (a .buf)) (a .r))),
+    )
 
 join-moved-requires : tie.Need-join-moved-requires Inv-loop μ-loop
 join-moved-requires c κs =
     let in-loop = c .before .before in
     let at-loop = in-loop .before in
     let s = start (at-loop .before) in
-    let l = at-loop .loop in
-    (in-loop .loop-test .taken, record { stride = s .pre .stride; near = s .pre .near; moved = omega (arith, l .inv .2, s .pre .moved); rows = l .inv .3 .size ∙ s .pre .rows })
+    let l = at-loop .loop in (
+      in-loop .loop-test .taken,
+      record {
+        stride = s .pre .stride;
+        near = s .pre .near;
+        moved = omega (arith, l .inv .2, s .pre .moved);
+        rows = l .inv .3 .size
+            ∙ s .pre .rows;
+      },
+    )
 
 add-j : tie.Need-add-j Inv-loop μ-loop
 add-j c = omega arith

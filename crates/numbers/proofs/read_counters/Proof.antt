@@ -49,13 +49,17 @@ loop-less : tie.Need-loop-less Inv-loop μ-loop
 loop-less c = search needs
 
 loop-again : tie.Need-loop-again Inv-loop μ-loop
-loop-again c = let l = c .before .before .before .before .loop in (omega (arith, l .inv .1 .size), mapped-more _ (omega (arith, l .inv .1 .size)) (c .two .ensures) (l .inv .1))
+loop-again c =
+    let l = c .before .before .before .before .loop in
+    (omega (arith, l .inv .1 .size), mapped-more _ (omega (arith, l .inv .1 .size)) (c .two .ensures) (l .inv .1))
 
 same-length : tie.Need-same-length Inv-loop μ-loop
 same-length c = c .before .loop .inv .1 .size
 
 returns : tie.Need-returns Inv-loop μ-loop
-returns c = let l = c .before .loop in let m = l .inv .1 in counters-read (now (c .before .before .before .before .args .bytes)) (l .counters) (omega (arith, m .size)) (λ j h. m .done j (omega (arith, m .size)))
+returns c =
+    let l = c .before .loop in let m = l .inv .1 in counters-read (now (c .before .before .before .before .args .bytes)) (l .counters) (omega (arith, m .size))
+    (λ j h. m .done j (omega (arith, m .size)))
 
 pub read-counters-spec : {M : Type 1} → statement M
 read-counters-spec =

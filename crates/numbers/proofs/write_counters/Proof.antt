@@ -16,6 +16,9 @@ Inv-loop counters bytes₀ i₀ bytes i = (i ≤ length counters) × Mapped (byt
 abbrev μ-loop : tie.MeasureT-loop
 μ-loop counters bytes₀ i₀ bytes i = length counters - i
 
+abbrev to-at-loop : tie.After-shared-slice-known2 Inv-loop μ-loop → tie.At-loop Inv-loop μ-loop
+to-at-loop c = c .before .before .before
+
 loop-holds : tie.Need-loop-holds Inv-loop μ-loop
 loop-holds c = (omega arith, mapped-none _ _)
 
@@ -41,7 +44,9 @@ shared-slice-read-bytes-2 : tie.Need-shared-slice-read-bytes-2 Inv-loop μ-loop
 shared-slice-read-bytes-2 c = search needs
 
 cast-bytes-2 : tie.Need-cast-bytes-2 Inv-loop μ-loop
-cast-bytes-2 c = omega (arith, c .shared-slice-known2 .given (c .before .before .before .loop .i))
+cast-bytes-2 c =
+    let at-loop = to-at-loop c in
+    omega (arith, c .shared-slice-known2 .given (at-loop .loop .i))
 
 mul-bytes-4 : tie.Need-mul-bytes-4 Inv-loop μ-loop
 mul-bytes-4 c = search needs
@@ -50,7 +55,10 @@ add-bytes : tie.Need-add-bytes Inv-loop μ-loop
 add-bytes c = search needs
 
 slice-write-bytes-2 : tie.Need-slice-write-bytes-2 Inv-loop μ-loop
-slice-write-bytes-2 c = let l = c .before .before .before .loop in omega (arith, length-set (l .bytes) (2 * l .i) (getD (now (c .before .before .before .before .args .counters)) (l .i) 0 % 256), l .inv .1 .size)
+slice-write-bytes-2 c =
+    let at-loop = to-at-loop c in
+    let s = at-loop .before in
+    let l = at-loop .loop in omega (arith, length-set (l .bytes) (2 * l .i) (getD (now (s .args .counters)) (l .i) 0 % 256), l .inv .1 .size)
 
 add-i : tie.Need-add-i Inv-loop μ-loop
 add-i c = search needs
@@ -60,14 +68,19 @@ loop-less c = search needs
 
 loop-again : tie.Need-loop-again Inv-loop μ-loop
 loop-again c =
-    let l = c .before .before .before .loop in
-    let s = c .before .before .before .before in (omega arith, bytes-more (now (s .args .counters)) (now (s .args .bytes)) (l .bytes) (l .i) (s .pre) (omega arith) (l .inv .1))
+    let at-loop = to-at-loop c in
+    let s = at-loop .before in
+    let l = at-loop .loop in
+    (omega arith, bytes-more (now (s .args .counters)) (now (s .args .bytes)) (l .bytes) (l .i) (s .pre) (omega arith) (l .inv .1))
 
 same-length : tie.Need-same-length Inv-loop μ-loop
 same-length c = c .before .loop .inv .1 .size
 
 returns : tie.Need-returns Inv-loop μ-loop
-returns c = let l = c .before .loop in let m = l .inv .1 in counters-written (now (c .before .before .args .counters)) (l .bytes) (m .size ∙ c .before .before .pre) (λ k h. m .done k (omega (arith, m .size, c .before .before .pre)))
+returns c =
+    let s = c .before .before in
+    let l = c .before .loop in let m = l .inv .1 in counters-written (now (s .args .counters)) (l .bytes) (m .size ∙ s .pre)
+    (λ k h. m .done k (omega (arith, m .size, s .pre)))
 
 pub write-counters-spec : {M : Type 1} → statement M
 write-counters-spec =

@@ -1,4 +1,4 @@
--- `reconstruction::gather` meets its contract.
+-- `reconstruction::gather` meets its contract. The invariant: the plane has the points of sizes from n on, gathered, and tops each row's largest label not above n. The measure is n.
 use Rattle.reconstruction.proofs.gather.Statement.{statement}
 use mathlib.Core.Path.{_∙_, _≡_, ap, refl, sym}
 use Prim.Native.Nat.{_*_, _+_, _≤_, max, ℕ}
@@ -24,6 +24,12 @@ abbrev μ-loop : tie.MeasureT-loop
 μ-loop w h r p element cut labels work₀ n₀ tops₀ work n tops =
     n
 
+abbrev start : tie.After-tops2 Inv-loop μ-loop → tie.Start Inv-loop μ-loop
+start c = c .before .before .before .before .before .before .before
+
+abbrev to-in-loop : tie.After-slice-known2 Inv-loop μ-loop → tie.In-loop Inv-loop μ-loop
+to-in-loop c = c .before .before .before .before .before .before
+
 greatest-requires : tie.Need-greatest-requires Inv-loop μ-loop
 greatest-requires c κs =
     tt
@@ -37,8 +43,10 @@ returns c =
     let s = c .before .before .before .before in
     let a = s .args in
     let g = c .before .greatest in
-    gathered-last (a .w) (a .h) (a .p) (a .element) (a .cut) (sheet-bytes (s .pre .0)) (now (a .labels)) (s .pre .2) (g .result) (now (a .work)) (now (a .work)) (omega (arith, c .if1 .taken))
-    (gathered-start (a .w) (a .h) (a .p) (a .element) (a .cut) (sheet-bytes (s .pre .0)) (now (a .labels)) (s .pre .2) (g .result) (now (a .work)) (g .ensures) (s .pre .3))
+    gathered-last (a .w) (a .h) (a .p) (a .element) (a .cut) (sheet-bytes (s .pre .0)) (now (a .labels)) (s .pre .2) (g .result) (now (a .work))
+    (now (a .work)) (omega (arith, c .if1 .taken))
+    (gathered-start (a .w) (a .h) (a .p) (a .element) (a .cut) (sheet-bytes (s .pre .0)) (now (a .labels)) (s .pre .2) (g .result) (now (a .work)) (g .ensures)
+    (s .pre .3))
 
 slice-aggregate-row-tops : tie.Need-slice-aggregate-row-tops Inv-loop μ-loop
 slice-aggregate-row-tops c =
@@ -50,13 +58,16 @@ row-tops-requires c κs =
 
 loop-holds : tie.Need-loop-holds Inv-loop μ-loop
 loop-holds c =
-    let s = c .before .before .before .before .before .before .before in
+    let at-row-tops = c .before in
+    let at-greatest = at-row-tops .before .before .before in
+    let s = start c in
     let a = s .args in
-    let g = c .before .before .before .before .greatest in (
+    let g = at-greatest .greatest in (
       search needs,
-      gathered-start (a .w) (a .h) (a .p) (a .element) (a .cut) (sheet-bytes (s .pre .0)) (now (a .labels)) (s .pre .2) (g .result) (now (a .work)) (g .ensures) (s .pre .3),
-      c .before .row-tops .kept .1 .1 .1 .0,
-      λ y l. c .before .row-tops .ensures y l ∙ ap (λ (n : ℕ). greatestBelow (n + 1) (take (a .w) (drop (y * a .w) (now (a .labels))))) (sym (g .ensures)),
+      gathered-start (a .w) (a .h) (a .p) (a .element) (a .cut) (sheet-bytes (s .pre .0)) (now (a .labels)) (s .pre .2) (g .result) (now (a .work))
+          (g .ensures) (s .pre .3),
+      at-row-tops .row-tops .kept .1 .1 .1 .0,
+      λ y l. at-row-tops .row-tops .ensures y l ∙ ap (λ (n : ℕ). greatestBelow (n + 1) (take (a .w) (drop (y * a .w) (now (a .labels))))) (sym (g .ensures)),
     )
 
 cast-grow : tie.Need-cast-grow Inv-loop μ-loop
@@ -65,39 +76,50 @@ cast-grow c =
 
 slice-aggregate-grow : tie.Need-slice-aggregate-grow Inv-loop μ-loop
 slice-aggregate-grow c =
-    sym (c .before .before .loop .inv .2)
+    let at-loop = c .before .before in
+    sym (at-loop .loop .inv .2)
 
 grow-requires : tie.Need-grow-requires Inv-loop μ-loop
 grow-requires c κs =
-    let s = c .before .before .before .before .before .before .before .before .before .before .before in
+    let in-loop = c .before .before in
+    let at-loop = in-loop .before in
+    let s = start (at-loop .before) in
     let a = s .args in
-    let l = c .before .before .before .loop in (
-      s .pre .0,
-      omega (arith, s .pre .1, l .inv .1 .size),
-      omega (arith, c .before .before .loop-test .taken),
-      s .pre .2 .places,
-      gathered-clean (a .w) (a .h) (a .p) (a .element) (a .cut) (sheet-bytes (s .pre .0)) (now (a .labels)) (s .pre .2) (l .n) (now (a .work)) (l .work) (l .inv .1),
-      l .inv .3,
-      omega (arith, l .inv .2, s .pre .0 .frame .down),
-    )
+    let l = at-loop .loop in
+    record {
+      sheet = s .pre .0;
+      planes = omega (arith, s .pre .1, l .inv .1 .size);
+      label = omega (arith, in-loop .loop-test .taken);
+      places = s .pre .2 .places;
+      clean = gathered-clean (a .w) (a .h) (a .p) (a .element) (a .cut) (sheet-bytes (s .pre .0)) (now (a .labels)) (s .pre .2) (l .n) (now (a .work))
+          (l .work) (l .inv .1);
+      tops = l .inv .3;
+      rows = omega (arith, l .inv .2, s .pre .0 .frame .down);
+    }
 
 sub-n : tie.Need-sub-n Inv-loop μ-loop
 sub-n c =
-    omega (arith, c .before .before .before .before .before .before .loop-test .taken)
+    let in-loop = to-in-loop c in
+    omega (arith, in-loop .loop-test .taken)
 
 loop-less : tie.Need-loop-less Inv-loop μ-loop
 loop-less c =
-    omega (arith, c .before .before .before .before .before .before .loop-test .taken)
+    let in-loop = to-in-loop c in
+    omega (arith, in-loop .loop-test .taken)
 
 loop-again : tie.Need-loop-again Inv-loop μ-loop
 loop-again c =
-    let s = c .before .before .before .before .before .before .before .before .before .before .before .before .before .before .before in
+    let at-grow = c .before .before .before in
+    let in-loop = to-in-loop c in
+    let at-loop = in-loop .before in
+    let s = start (at-loop .before) in
     let a = s .args in
-    let l = c .before .before .before .before .before .before .before .loop in (
+    let l = at-loop .loop in (
       omega (arith, l .inv .0),
-      gathered-more (a .w) (a .h) (a .p) (a .element) (a .cut) (sheet-bytes (s .pre .0)) (now (a .labels)) (s .pre .2) (l .n) (now (a .work)) (l .work) _ (c .before .before .before .before .before .before .loop-test .taken) (l .inv .1) (c .before .before .before .grow .ensures .0),
-      c .before .before .before .grow .kept .1 .1 .1 .1 .1 .1 .1 .0 ∙ l .inv .2,
-      c .before .before .before .grow .ensures .1,
+      gathered-more (a .w) (a .h) (a .p) (a .element) (a .cut) (sheet-bytes (s .pre .0)) (now (a .labels)) (s .pre .2) (l .n) (now (a .work)) (l .work) _
+          (in-loop .loop-test .taken) (l .inv .1) (at-grow .grow .ensures .0),
+      at-grow .grow .kept .1 .1 .1 .1 .1 .1 .1 .0 ∙ l .inv .2,
+      at-grow .grow .ensures .1,
     )
 
 same-length : tie.Need-same-length Inv-loop μ-loop
@@ -106,10 +128,11 @@ same-length c =
 
 returns-2 : tie.Need-returns-2 Inv-loop μ-loop
 returns-2 c =
-    let s = c .before .before .before .before .before .before .before .before .before in
+    let s = start (c .before .before) in
     let a = s .args in
     let l = c .before .loop in
-    gathered-last (a .w) (a .h) (a .p) (a .element) (a .cut) (sheet-bytes (s .pre .0)) (now (a .labels)) (s .pre .2) (l .n) (now (a .work)) (l .work) (omega (arith, c .loop-test .left)) (l .inv .1)
+    gathered-last (a .w) (a .h) (a .p) (a .element) (a .cut) (sheet-bytes (s .pre .0)) (now (a .labels)) (s .pre .2) (l .n) (now (a .work)) (l .work)
+    (omega (arith, c .loop-test .left)) (l .inv .1)
 
 pub gather-spec : {M : Type 1} → statement M
 gather-spec =

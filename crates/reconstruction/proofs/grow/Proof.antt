@@ -1,4 +1,4 @@
--- `reconstruction::grow` meets its contract.
+-- `reconstruction::grow` meets its contract. The plane after the dilation is clean and long enough for the points to be joined, and both together are `grown`.
 use borrow.Author.Needs.{needs}
 use mathlib.Core.Path.{sym}
 use native.Mathlib.Omega.{arith}
@@ -12,6 +12,12 @@ use Rattle.reconstruction.proofs.GatherLaws.{joined-first, part-clean, 
 use Rattle.reconstruction.proofs.grow.Statement.{statement}
 use Rattle.reconstruction.proofs.grow.Tie as tie
 
+abbrev start : tie.After-dilate-times → tie.Start
+start c = c .before .before .before .before .before
+
+abbrev to-dilate-times : tie.After-add-points-arg2 → tie.After-dilate-times
+to-dilate-times c = c .before .before .before .before
+
 dilate-times-requires : tie.Need-dilate-times-requires
 dilate-times-requires c κs = search needs
 
@@ -20,23 +26,25 @@ slice-relend-prefix-add-points c = search needs
 
 slice-aggregate-add-points : tie.Need-slice-aggregate-add-points
 slice-aggregate-add-points c =
-    let s = c .before .before .before .before .before .before .before .before .before in
-    sym (length-take-le (s .args .p) _ (omega (arith, s .pre .1, c .before .before .before .before .dilate-times .ensures .size)))
+    let at-dilate-times = to-dilate-times c in
+    let s = start at-dilate-times in
+    sym (length-take-le (s .args .p) _ (omega (arith, s .pre .planes, at-dilate-times .dilate-times .ensures .size)))
 
 add-points-requires : tie.Need-add-points-requires
 add-points-requires c κs =
-    let s = c .before .before .before .before .before .before .before .before .before in
+    let at-dilate-times = to-dilate-times c in
+    let s = start at-dilate-times in
     let a = s .args in
-    let e = c .before .before .before .before .dilate-times .ensures in
-    let q = sheet-bytes (s .pre .0) in
+    let e = at-dilate-times .dilate-times .ensures in
+    let q = sheet-bytes (s .pre .sheet) in
     let on = dilated-on (a .w) (a .h) (offsets (a .element)) _ (imageSet (a .w) (a .h) (now (a .work))) (image-on (a .w) (a .h) (now (a .work))) in (
-      s .pre .0 .frame,
-      omega (arith, s .pre .2),
-      s .pre .3,
-      omega (arith, s .pre .0 .plane, taken (a .w) (a .h) (a .p) q _ on (now (a .work)) _ (s .pre .1) e),
-      part-clean (a .w) (a .h) (a .p) q _ on (now (a .work)) _ (s .pre .1) e,
-      s .pre .5,
-      s .pre .6,
+      s .pre .sheet .frame,
+      omega (arith, s .pre .label),
+      s .pre .places,
+      omega (arith, s .pre .sheet .plane, taken (a .w) (a .h) (a .p) q _ on (now (a .work)) _ (s .pre .planes) e),
+      part-clean (a .w) (a .h) (a .p) q _ on (now (a .work)) _ (s .pre .planes) e,
+      s .pre .tops,
+      s .pre .rows,
     )
 
 same-length : tie.Need-same-length
@@ -47,11 +55,14 @@ same-length-2 c = search needs
 
 returns : tie.Need-returns
 returns c =
-    let s = c .before .before .before .before .before .before .before .before .before .before .before .before .before .before in
+    let at-add-points = c .before .before .before .before in
+    let at-dilate-times = to-dilate-times (at-add-points .before) in
+    let s = start at-dilate-times in
     let a = s .args in
     let on = dilated-on (a .w) (a .h) (offsets (a .element)) _ (imageSet (a .w) (a .h) (now (a .work))) (image-on (a .w) (a .h) (now (a .work))) in (
-      joined-first (a .w) (a .h) (a .p) (sheet-bytes (s .pre .0)) _ on (now (a .work)) _ (s .pre .1) (c .before .before .before .before .before .before .before .before .before .dilate-times .ensures) (now (a .labels)) (a .v) _ (c .before .before .before .before .add-points .ensures .0),
-      c .before .before .before .before .add-points .ensures .1,
+      joined-first (a .w) (a .h) (a .p) (sheet-bytes (s .pre .sheet)) _ on (now (a .work)) _ (s .pre .planes) (at-dilate-times .dilate-times .ensures)
+          (now (a .labels)) (a .v) _ (at-add-points .add-points .ensures .0),
+      at-add-points .add-points .ensures .1,
     )
 
 pub grow-spec : {M : Type 1} → statement M

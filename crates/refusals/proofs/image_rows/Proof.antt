@@ -22,7 +22,11 @@ first-requires : tie.Need-first-requires
 first-requires c κs = search needs
 
 bad-padding-requires : tie.Need-bad-padding-requires
-bad-padding-requires c κs = (c .before .before .before .before .before .before .pre, sym (c .before .before .before .before .not-plane .ensures) ∙ c .before .before .before .if1 .left)
+bad-padding-requires c κs =
+    let else1 = c .before .before .before in
+    let at-not-plane = else1 .before in
+    let s = at-not-plane .before .before in
+    (s .pre, sym (at-not-plane .not-plane .ensures) ∙ else1 .if1 .left)
 
 row-requires-3 : tie.Need-row-requires-3
 row-requires-3 c κs = search needs
@@ -32,9 +36,15 @@ first-requires-2 c κs = search needs
 
 returns-2 : tie.Need-returns-2
 returns-2 c =
-    first-both (_ ∷ _ ∷ []) (_ ∷ []) _ _ tt (first-both (_ ∷ []) (_ ∷ []) _ _ tt (c .before .before .before .before .before .row .ensures) (c .before .before .before .before .row2 .ensures) (c .before .before .before .first .ensures))
-    (first-row 4 (c .before .before .bad-padding .ensures) (c .before .row3 .ensures)) (c .first2 .ensures)
-    ∙ lengths-rest _ _ _ _ (sym (c .before .before .before .before .before .before .before .not-plane .ensures) ∙ c .before .before .before .before .before .before .if1 .left)
+    let at-bad-padding = c .before .before in
+    let at-first = at-bad-padding .before in
+    let at-row2 = at-first .before in
+    let at-row = at-row2 .before in
+    let else1 = at-row .before in
+    let at-not-plane = else1 .before in
+    first-both (_ ∷ _ ∷ []) (_ ∷ []) _ _ tt (first-both (_ ∷ []) (_ ∷ []) _ _ tt (at-row .row .ensures) (at-row2 .row2 .ensures) (at-first .first .ensures))
+    (first-row 4 (at-bad-padding .bad-padding .ensures) (c .before .row3 .ensures)) (c .first2 .ensures)
+    ∙ lengths-rest _ _ _ _ (sym (at-not-plane .not-plane .ensures) ∙ else1 .if1 .left)
 
 pub image-rows-spec : {M : Type 1} → statement M
 image-rows-spec =

@@ -17,7 +17,8 @@ first-requires c κs = search needs
 returns : tie.Need-returns
 returns c =
     let a = c .before .before .before .args in
-    first-both (_ ∷ _ ∷ []) (_ ∷ []) _ _ tt (c .before .before .sides-and-element .ensures) (first-row 3 (lengths-joined (a .a) (a .b) (a .c)) (c .before .row .ensures)) (c .first .ensures)
+    first-both (_ ∷ _ ∷ []) (_ ∷ []) _ _ tt (c .before .before .sides-and-element .ensures)
+    (first-row 3 (lengths-joined (a .a) (a .b) (a .c)) (c .before .row .ensures)) (c .first .ensures)
 
 pub shape-rows-spec : {M : Type 1} → statement M
 shape-rows-spec =

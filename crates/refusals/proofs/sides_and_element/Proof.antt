@@ -22,7 +22,8 @@ first-requires c κs = search needs
 
 returns : tie.Need-returns
 returns c =
-    first-both (_ ∷ []) (_ ∷ []) _ _ tt (first-row 1 (c .before .before .before .before .bad-sides .ensures) (c .before .before .before .row .ensures)) (first-row 2 (c .before .before .bad-element .ensures) (c .before .row2 .ensures))
+    first-both (_ ∷ []) (_ ∷ []) _ _ tt (first-row 1 (c .before .before .before .before .bad-sides .ensures) (c .before .before .before .row .ensures))
+    (first-row 2 (c .before .before .bad-element .ensures) (c .before .row2 .ensures))
     (c .first .ensures)
 
 pub sides-and-element-spec : {M : Type 1} → statement M

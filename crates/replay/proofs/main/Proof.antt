@@ -8,28 +8,49 @@ use Rattle.replay.proofs.main.Statement.{statement}
 use Rattle.replay.proofs.main.Tie as tie
 
 abbrev Inv-loop : tie.InvT-loop
-Inv-loop x₀ y₀ z₀ c₀ counters₀ made₀ x y z c counters made = (made ≤ 2 ^ 63) × (length x ≡ 65536) × (length y ≡ 65536) × (length z ≡ 65536) × (length c ≡ 131072) × (length counters ≡ 65536)
+Inv-loop x₀ y₀ z₀ c₀ counters₀ made₀ x y z c counters made =
+    (made ≤ 2 ^ 63) × (length x ≡ 65536) × (length y ≡ 65536) × (length z ≡ 65536) × (length c ≡ 131072) × (length counters ≡ 65536)
 
 abbrev μ-loop : tie.MeasureT-loop
 μ-loop x₀ y₀ z₀ c₀ counters₀ made₀ x y z c counters made = 2 ^ 63 - made
 
+abbrev to-at-loop : tie.After-y Inv-loop μ-loop → tie.At-loop Inv-loop μ-loop
+to-at-loop c = c .before .before .before
+
 loop-holds : tie.Need-loop-holds Inv-loop μ-loop
-loop-holds c = (omega arith, length-replicate {A = ℕ} 65536 0, length-replicate {A = ℕ} 65536 0, length-replicate {A = ℕ} 65536 0, length-replicate {A = ℕ} 131072 0, length-replicate {A = ℕ} 65536 0)
+loop-holds c = (
+  omega arith,
+  length-replicate {A = ℕ} 65536 0,
+  length-replicate {A = ℕ} 65536 0,
+  length-replicate {A = ℕ} 65536 0,
+  length-replicate {A = ℕ} 131072 0,
+  length-replicate {A = ℕ} 65536 0,
+)
 
 slice-aggregate-turn : tie.Need-slice-aggregate-turn Inv-loop μ-loop
-slice-aggregate-turn c = sym (c .before .before .loop .inv .1)
+slice-aggregate-turn c =
+    let at-loop = c .before .before in
+    sym (at-loop .loop .inv .1)
 
 slice-aggregate-turn-2 : tie.Need-slice-aggregate-turn-2 Inv-loop μ-loop
-slice-aggregate-turn-2 c = sym (c .before .before .before .loop .inv .2)
+slice-aggregate-turn-2 c =
+    let at-loop = to-at-loop c in
+    sym (at-loop .loop .inv .2)
 
 slice-aggregate-turn-3 : tie.Need-slice-aggregate-turn-3 Inv-loop μ-loop
-slice-aggregate-turn-3 c = sym (c .before .before .before .before .loop .inv .3)
+slice-aggregate-turn-3 c =
+    let at-loop = to-at-loop (c .before) in
+    sym (at-loop .loop .inv .3)
 
 slice-aggregate-turn-4 : tie.Need-slice-aggregate-turn-4 Inv-loop μ-loop
-slice-aggregate-turn-4 c = sym (c .before .before .before .before .before .loop .inv .4)
+slice-aggregate-turn-4 c =
+    let at-loop = to-at-loop (c .before .before) in
+    sym (at-loop .loop .inv .4)
 
 slice-aggregate-turn-5 : tie.Need-slice-aggregate-turn-5 Inv-loop μ-loop
-slice-aggregate-turn-5 c = sym (c .before .before .before .before .before .before .loop .inv .5)
+slice-aggregate-turn-5 c =
+    let at-loop = to-at-loop (c .before .before .before) in
+    sym (at-loop .loop .inv .5)
 
 turn-requires : tie.Need-turn-requires Inv-loop μ-loop
 turn-requires c κs = search needs
@@ -44,7 +65,12 @@ loop-less : tie.Need-loop-less Inv-loop μ-loop
 loop-less c = search needs
 
 loop-again : tie.Need-loop-again Inv-loop μ-loop
-loop-again c = (search needs, c .before .before .before .before .before .x2 .given, c .before .before .before .before .y2 .given, c .before .before .before .z2 .given, c .before .before .c2 .given, c .before .counters2 .given)
+loop-again c =
+    let at-c2 = c .before .before in
+    let at-z2 = at-c2 .before in
+    let at-y2 = at-z2 .before in
+    let at-x2 = at-y2 .before in
+    (search needs, at-x2 .x2 .given, at-y2 .y2 .given, at-z2 .z2 .given, at-c2 .c2 .given, c .before .counters2 .given)
 
 returns-2 : tie.Need-returns-2 Inv-loop μ-loop
 returns-2 c = search needs

@@ -7,6 +7,12 @@ use borrow.Author.Needs.{needs}
 use Rattle.replay.proofs.turn.Statement.{statement}
 use Rattle.replay.proofs.turn.Tie as tie
 
+abbrev start : tie.After-number → tie.Start
+start c = c .before .before .before .before .before .before .before .before .before .before .before
+
+abbrev to-number4 : tie.After-serve-arg4 → tie.After-number4
+to-number4 c = c .before .before .before .before .before .before .before .before .before .before .before
+
 slice-aggregate-fill : tie.Need-slice-aggregate-fill
 slice-aggregate-fill c = search needs
 
@@ -70,7 +76,8 @@ slice-relend-prefix-serve c = search needs
 slice-aggregate-serve : tie.Need-slice-aggregate-serve
 slice-aggregate-serve c =
     let n = c .before .before .before .before .before .before .before .before .before .before .before .before .before .before in
-    sym (length-take-le (n .number .result) (now (n .before .before .before .before .before .before .before .before .before .before .before .args .x)) (search needs))
+    let s = start n in
+    sym (length-take-le (n .number .result) (now (s .args .x)) (search needs))
 
 slice-relend-prefix-serve-2 : tie.Need-slice-relend-prefix-serve-2
 slice-relend-prefix-serve-2 c = search needs
@@ -78,7 +85,8 @@ slice-relend-prefix-serve-2 c = search needs
 slice-aggregate-serve-2 : tie.Need-slice-aggregate-serve-2
 slice-aggregate-serve-2 c =
     let n = c .before .before .before .before .before .before .before .before .before .before .before .before .before in
-    sym (length-take-le (n .number2 .result) (now (n .before .before .before .before .before .before .before .before .before .before .before .before .before .args .y)) (search needs))
+    let s = start (n .before .before) in
+    sym (length-take-le (n .number2 .result) (now (s .args .y)) (search needs))
 
 slice-relend-prefix-serve-3 : tie.Need-slice-relend-prefix-serve-3
 slice-relend-prefix-serve-3 c = search needs
@@ -86,7 +94,8 @@ slice-relend-prefix-serve-3 c = search needs
 slice-aggregate-serve-3 : tie.Need-slice-aggregate-serve-3
 slice-aggregate-serve-3 c =
     let n = c .before .before .before .before .before .before .before .before .before .before .before .before in
-    sym (length-take-le (n .number3 .result) (now (n .before .before .before .before .before .before .before .before .before .before .before .before .before .before .before .args .z)) (search needs))
+    let s = start (n .before .before .before .before) in
+    sym (length-take-le (n .number3 .result) (now (s .args .z)) (search needs))
 
 mul-serve : tie.Need-mul-serve
 mul-serve c = search needs
@@ -96,22 +105,25 @@ slice-relend-prefix-serve-4 c = search needs
 
 slice-aggregate-serve-4 : tie.Need-slice-aggregate-serve-4
 slice-aggregate-serve-4 c =
-    let n = c .before .before .before .before .before .before .before .before .before .before .before in
-    sym (length-take-le (2 * n .number4 .result) (now (n .before .before .before .before .before .before .before .before .before .before .before .before .before .before .before .before .before .args .c)) (search needs))
+    let n = to-number4 c in
+    let s = start (n .before .before .before .before .before .before) in
+    sym (length-take-le (2 * n .number4 .result) (now (s .args .c)) (search needs))
 
 slice-relend-prefix-serve-5 : tie.Need-slice-relend-prefix-serve-5
 slice-relend-prefix-serve-5 c = search needs
 
 slice-aggregate-serve-5 : tie.Need-slice-aggregate-serve-5
 slice-aggregate-serve-5 c =
-    let n = c .before .before .before .before .before .before .before .before .before .before .before .before in
-    sym (length-take-le (n .number4 .result) (now (n .before .before .before .before .before .before .before .before .before .before .before .before .before .before .before .before .before .args .counters)) (search needs))
+    let n = to-number4 (c .before) in
+    let s = start (n .before .before .before .before .before .before) in
+    sym (length-take-le (n .number4 .result) (now (s .args .counters)) (search needs))
 
 serve-requires : tie.Need-serve-requires
 serve-requires c κs =
-    let n = c .before .before .before .before .before .before .before .before .before .before .before .before in
+    let n = to-number4 (c .before) in
+    let s = start (n .before .before .before .before .before .before) in
     let m = n .number4 .result in
-    let a = n .before .before .before .before .before .before .before .before .before .before .before .before .before .before .before .before .before .args in
+    let a = s .args in
     length-take-le (2 * m) (now (a .c)) (search needs) ∙ sym (ap (λ (i : ℕ). 2 * i) (length-take-le m (now (a .counters)) (search needs)))
 
 same-length : tie.Need-same-length

@@ -24,7 +24,8 @@ returns : tie.Need-returns
 returns c =
     let d = c .before .before .before .before .before .before in
     let a = d .before .before .before .before .before .before .before .args in
-    outcome-refused (a .w) (a .h) (a .element) (a .cut) (now (a .image)) (now (a .labels)) (now (a .work)) _ _ _ _ (d .decompose .ensures) (c .before .refusal-of .ensures) (c .if1 .taken)
+    outcome-refused (a .w) (a .h) (a .element) (a .cut) (now (a .image)) (now (a .labels)) (now (a .work)) _ _ _ _ (d .decompose .ensures)
+    (c .before .refusal-of .ensures) (c .if1 .taken)
 
 reconstruct-requires : tie.Need-reconstruct-requires
 reconstruct-requires c κs = search needs
@@ -44,7 +45,8 @@ returns-2 c =
     let i = r .before .before .before .before in
     let d = i .before .before .before .before .before .before in
     let a = d .before .before .before .before .before .before .before .args in
-    outcome-both (a .w) (a .h) (a .element) (a .cut) (now (a .image)) (now (a .labels)) (now (a .work)) _ _ _ _ _ _ _ (d .decompose .ensures) (i .before .refusal-of .ensures) (i .if1 .left) (r .reconstruct .ensures)
+    outcome-both (a .w) (a .h) (a .element) (a .cut) (now (a .image)) (now (a .labels)) (now (a .work)) _ _ _ _ _ _ _ (d .decompose .ensures)
+    (i .before .refusal-of .ensures) (i .if1 .left) (r .reconstruct .ensures)
 
 pub sieve-spec : {M : Type 1} → statement M
 sieve-spec =

@@ -13,6 +13,12 @@ use Rattle.thinning.proofs.HitLaws.{hit-outcome, hit-refused}
 use Rattle.thinning.proofs.hit_or_miss.Statement.{statement}
 use Rattle.thinning.proofs.hit_or_miss.Tie as tie
 
+abbrev start : tie.After-hit-refusal → tie.Start
+start c = c .before .before .before .before
+
+abbrev to-hit-plane : tie.After-count-ones-arg → tie.After-hit-plane
+to-hit-plane c = c .before .before .before
+
 hit-refusal-requires : tie.Need-hit-refusal-requires
 hit-refusal-requires c κs = search needs
 
@@ -21,7 +27,8 @@ same-length c = search needs
 
 returns : tie.Need-returns
 returns c =
-    let a = c .before .before .before .before .before .args in
+    let s = start (c .before) in
+    let a = s .args in
     hit-refused (a .w) (a .h) (a .fg, a .bg) (now (a .image)) (now (a .out)) _ (c .before .hit-refusal .ensures) (c .if1 .taken)
 
 add-hit-plane : tie.Need-add-hit-plane
@@ -29,25 +36,40 @@ add-hit-plane c = search needs
 
 hit-plane-requires : tie.Need-hit-plane-requires
 hit-plane-requires c κs =
-    let a = c .before .before .before .before .before .before .args in
-    let d = hit-ready (a .w) (a .h) (a .fg) (a .bg) (now (a .image)) (now (a .out)) (sym (c .before .before .hit-refusal .ensures) ∙ c .before .if1 .left) in
+    let at-hit-refusal = c .before .before in
+    let s = start at-hit-refusal in
+    let a = s .args in
+    let d = hit-ready (a .w) (a .h) (a .fg) (a .bg) (now (a .image)) (now (a .out)) (sym (at-hit-refusal .hit-refusal .ensures) ∙ c .before .if1 .left) in
     (d .frame, d .image ∙ sym (frame-bytes (d .frame)), d .out ∙ sym (frame-bytes (d .frame)), d .mask, d .clean)
 
 count-ones-requires : tie.Need-count-ones-requires
 count-ones-requires c κs =
-    let a = c .before .before .before .before .before .before .before .before .before .before .args in
-    let d = hit-ready (a .w) (a .h) (a .fg) (a .bg) (now (a .image)) (now (a .out)) (sym (c .before .before .before .before .before .before .hit-refusal .ensures) ∙ c .before .before .before .before .before .if1 .left) in
-    omega (arith, d .small, ap length (c .before .before .before .hit-plane .ensures) ∙ length-pack (a .w) (a .h) (hit (a .fg, a .bg) (imageSet (a .w) (a .h) (now (a .image)))))
+    let at-hit-plane = to-hit-plane c in
+    let else1 = at-hit-plane .before .before in
+    let at-hit-refusal = else1 .before in
+    let s = start at-hit-refusal in
+    let a = s .args in
+    let d = hit-ready (a .w) (a .h) (a .fg) (a .bg) (now (a .image)) (now (a .out)) (sym (at-hit-refusal .hit-refusal .ensures) ∙ else1 .if1 .left) in
+    omega (
+      arith,
+      d .small,
+      ap length (at-hit-plane .hit-plane .ensures)
+          ∙ length-pack (a .w) (a .h) (hit (a .fg, a .bg) (imageSet (a .w) (a .h) (now (a .image)))),
+    )
 
 same-length-2 : tie.Need-same-length-2
 same-length-2 c = search needs
 
 returns-2 : tie.Need-returns-2
 returns-2 c =
-    let a = c .before .before .before .before .before .before .before .before .before .before .before .args in
-    let z = sym (c .before .before .before .before .before .before .before .hit-refusal .ensures) ∙ c .before .before .before .before .before .before .if1 .left in
+    let at-hit-plane = to-hit-plane (c .before) in
+    let else1 = at-hit-plane .before .before in
+    let at-hit-refusal = else1 .before in
+    let s = start at-hit-refusal in
+    let a = s .args in
+    let z = sym (at-hit-refusal .hit-refusal .ensures) ∙ else1 .if1 .left in
     let d = hit-ready (a .w) (a .h) (a .fg) (a .bg) (now (a .image)) (now (a .out)) z in
-    hit-outcome (a .w) (a .h) (a .fg, a .bg) (now (a .image)) (now (a .out)) _ _ (d .mask) z (c .before .before .before .before .hit-plane .ensures) (c .count-ones .ensures)
+    hit-outcome (a .w) (a .h) (a .fg, a .bg) (now (a .image)) (now (a .out)) _ _ (d .mask) z (at-hit-plane .hit-plane .ensures) (c .count-ones .ensures)
 
 pub hit-or-miss-spec : {M : Type 1} → statement M
 hit-or-miss-spec =

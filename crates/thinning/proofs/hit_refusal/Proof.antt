@@ -18,7 +18,8 @@ not-plane-requires c κs = search needs
 
 image-rows-requires : tie.Need-image-rows-requires
 image-rows-requires c κs =
-    sym (c .before .before .bad-sides .ensures) ∙ c .before .if1 .left
+    let at-bad-sides = c .before .before in
+    sym (at-bad-sides .bad-sides .ensures) ∙ c .before .if1 .left
 
 bad-mask-requires : tie.Need-bad-mask-requires
 bad-mask-requires c κs = search needs
@@ -31,8 +32,14 @@ first-requires c κs = search needs
 
 returns-2 : tie.Need-returns-2
 returns-2 c =
-    first-both (_ ∷ _ ∷ []) (_ ∷ []) _ _ tt (rw (c .before .before .before .before .not-plane .ensures) at (c .before .before .before .image-rows .ensures)) (first-row 6 (c .before .before .bad-mask .ensures) (c .before .row .ensures)) (c .first .ensures)
-    ∙ sym (first-miss 1 _ _ (sym (c .before .before .before .before .before .before .bad-sides .ensures) ∙ c .before .before .before .before .before .if1 .left))
+    let at-bad-mask = c .before .before in
+    let at-image-rows = at-bad-mask .before in
+    let at-not-plane = at-image-rows .before in
+    let else1 = at-not-plane .before in
+    let at-bad-sides = else1 .before in
+    first-both (_ ∷ _ ∷ []) (_ ∷ []) _ _ tt (rw (at-not-plane .not-plane .ensures) at (at-image-rows .image-rows .ensures))
+    (first-row 6 (at-bad-mask .bad-mask .ensures) (c .before .row .ensures)) (c .first .ensures)
+    ∙ sym (first-miss 1 _ _ (sym (at-bad-sides .bad-sides .ensures) ∙ else1 .if1 .left))
 
 pub hit-refusal-spec : {M : Type 1} → statement M
 hit-refusal-spec =

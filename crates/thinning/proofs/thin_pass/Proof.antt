@@ -19,8 +19,17 @@ Inv-loop w h r p image₀ work₀ k₀ image work k = (k ≤ 8) × Leaves p (mas
 abbrev μ-loop : tie.MeasureT-loop
 μ-loop w h r p image₀ work₀ k₀ image work k = 8 - k
 
+abbrev start : tie.At-loop Inv-loop μ-loop → tie.Start Inv-loop μ-loop
+start c = c .before .before .before
+
+abbrev to-in-loop : tie.After-thin-step-arg2 Inv-loop μ-loop → tie.In-loop Inv-loop μ-loop
+to-in-loop c = c .before .before .before
+
 loop-holds : tie.Need-loop-holds Inv-loop μ-loop
-loop-holds c = let a = c .before .before .args in (omega arith, pass-start (a .w) (a .h) (a .p) (now (a .image)) (now (a .work)))
+loop-holds c =
+    let s = c .before .before in
+    let a = s .args in
+    (omega arith, pass-start (a .w) (a .h) (a .p) (now (a .image)) (now (a .work)))
 
 mul-mask : tie.Need-mul-mask Inv-loop μ-loop
 mul-mask c = omega arith
@@ -31,13 +40,22 @@ array-copy-out-mask c = omega arith
 thin-step-requires : tie.Need-thin-step-requires Inv-loop μ-loop
 unfolding isMask tabulate
 thin-step-requires c κs =
-    let s = c .before .before .before .before .before .before .before in
+    let in-loop = to-in-loop c in
+    let at-loop = in-loop .before in
+    let at-slice-known = at-loop .before .before in
+    let s = start at-loop in
     let a = s .args in
-    let l = c .before .before .before .before .loop in
+    let l = at-loop .loop in
     let q = sheet-bytes (s .pre .0) in
-    let g : Plane (a .w) (a .h) (now (a .image)) = record { size = s .pre .1 ∙ q; bytes = λ i. c .before .before .before .before .before .before .slice-known .given i .fits; clean = s .pre .3 } in
-    let m = masks-plane (a .w) (a .h) (a .p) (l .k) (now (a .image)) (l .image) (now (a .work)) (l .work) g (l .inv .1) in
-    (s .pre .0, m .size ∙ sym q, omega (arith, l .inv .1 .size, s .pre .2), rw takes-entry (takes-all 8 (l .k) (omega (arith, c .before .before .before .loop-test .taken))), m .clean)
+    let g : Plane (a .w) (a .h) (now (a .image)) = record
+    { size = s .pre .1 ∙ q; bytes = λ i. at-slice-known .slice-known .given i .fits; clean = s .pre .3 } in
+    let m = masks-plane (a .w) (a .h) (a .p) (l .k) (now (a .image)) (l .image) (now (a .work)) (l .work) g (l .inv .1) in (
+      s .pre .0,
+      m .size ∙ sym q,
+      omega (arith, l .inv .1 .size, s .pre .2),
+      rw takes-entry (takes-all 8 (l .k) (omega (arith, in-loop .loop-test .taken))),
+      m .clean,
+    )
 
 add-k : tie.Need-add-k Inv-loop μ-loop
 add-k c = omega arith
@@ -47,17 +65,26 @@ loop-less c = omega arith
 
 loop-again : tie.Need-loop-again Inv-loop μ-loop
 loop-again c =
-    let a = c .before .before .before .before .before .before .before .before .before .before .before .before .args in
-    let l = c .before .before .before .before .before .before .before .before .before .loop in
-    (omega arith, pass-turn (a .w) (a .h) (a .p) (l .k) _ (now (a .image)) (l .image) _ (now (a .work)) (l .work) _ (omega (arith, c .before .before .before .before .before .before .before .before .loop-test .taken)) (entry-is (l .k)) (l .inv .1) (c .before .before .before .before .thin-step .ensures))
+    let at-thin-step = c .before .before .before .before in
+    let in-loop = to-in-loop (at-thin-step .before) in
+    let at-loop = in-loop .before in
+    let s = start at-loop in
+    let a = s .args in
+    let l = at-loop .loop in (
+      omega arith,
+      pass-turn (a .w) (a .h) (a .p) (l .k) _ (now (a .image)) (l .image) _ (now (a .work)) (l .work) _ (omega (arith, in-loop .loop-test .taken))
+          (entry-is (l .k)) (l .inv .1) (at-thin-step .thin-step .ensures),
+    )
 
 same-length : tie.Need-same-length Inv-loop μ-loop
 same-length c =
-    let s = c .before .before .before .before in
+    let at-slice-known = c .before .before .before in
+    let s = at-slice-known .before in
     let a = s .args in
     let l = c .before .loop in
     let q = sheet-bytes (s .pre .0) in
-    let g : Plane (a .w) (a .h) (now (a .image)) = record { size = s .pre .1 ∙ q; bytes = λ i. c .before .before .before .slice-known .given i .fits; clean = s .pre .3 } in
+    let g : Plane (a .w) (a .h) (now (a .image)) = record
+    { size = s .pre .1 ∙ q; bytes = λ i. at-slice-known .slice-known .given i .fits; clean = s .pre .3 } in
     masks-plane (a .w) (a .h) (a .p) (l .k) (now (a .image)) (l .image) (now (a .work)) (l .work) g (l .inv .1) .size ∙ sym (g .size)
 
 same-length-2 : tie.Need-same-length-2 Inv-loop μ-loop
@@ -65,7 +92,8 @@ same-length-2 c = c .before .loop .inv .1 .size
 
 returns : tie.Need-returns Inv-loop μ-loop
 returns c =
-    let a = c .before .before .before .before .args in
+    let s = start (c .before) in
+    let a = s .args in
     let l = c .before .loop in
     pass-done (a .w) (a .h) (a .p) (l .k) (now (a .image)) (l .image) (now (a .work)) (l .work) (omega arith) (l .inv .1)
 

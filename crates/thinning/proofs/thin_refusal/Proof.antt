@@ -21,7 +21,8 @@ image-rows-requires c κs =
 
 returns-2 : tie.Need-returns-2
 returns-2 c =
-    (rw (c .before .short-work .ensures) at (c .image-rows .ensures)) ∙ sym (first-miss 1 _ _ (sym (c .before .before .before .bad-sides .ensures) ∙ c .before .before .if1 .left))
+    (rw (c .before .short-work .ensures) at (c .image-rows .ensures))
+    ∙ sym (first-miss 1 _ _ (sym (c .before .before .before .bad-sides .ensures) ∙ c .before .before .if1 .left))
 
 pub thin-refusal-spec : {M : Type 1} → statement M
 thin-refusal-spec =

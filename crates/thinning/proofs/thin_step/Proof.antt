@@ -10,15 +10,23 @@ use Rattle.thinning.proofs.PassLaws.{front-size, step-leaves}
 use Rattle.thinning.proofs.thin_step.Statement.{statement}
 use Rattle.thinning.proofs.thin_step.Tie as tie
 
+abbrev start : tie.After-hit-plane-arg2 → tie.Start
+start c = c .before .before .before .before
+
+abbrev to-hit-plane : tie.After-subtract-arg → tie.After-hit-plane
+to-hit-plane c = c .before .before .before
+
 slice-relend-prefix-hit-plane : tie.Need-slice-relend-prefix-hit-plane
 slice-relend-prefix-hit-plane c = search needs
 
 slice-aggregate-hit-plane : tie.Need-slice-aggregate-hit-plane
-slice-aggregate-hit-plane c = let s = c .before .before .before .before in sym (length-take-le (s .args .p) (now (s .args .work)) (s .pre .2))
+slice-aggregate-hit-plane c =
+    let s = start c in
+    sym (length-take-le (s .args .p) (now (s .args .work)) (s .pre .2))
 
 hit-plane-requires : tie.Need-hit-plane-requires
 hit-plane-requires c κs =
-    let s = c .before .before .before .before in
+    let s = start c in
     let k = s .pre .0 in
     (k .frame, s .pre .1 ∙ k .plane, length-take-le (s .args .p) (now (s .args .work)) (s .pre .2) ∙ k .plane, s .pre .3, s .pre .4)
 
@@ -27,15 +35,19 @@ slice-reshare-prefix-subtract c = search needs
 
 slice-aggregate-subtract : tie.Need-slice-aggregate-subtract
 slice-aggregate-subtract c =
-    let s = c .before .before .before .before .before .before .before .before in
+    let at-hit-plane = to-hit-plane c in
+    let s = start (at-hit-plane .before) in
     let a = s .args in
-    sym (front-size (a .w) (a .h) (a .p) (hit (a .fg, a .bg) (imageSet (a .w) (a .h) (now (a .image)))) _ _ (sheet-bytes (s .pre .0)) (c .before .before .before .hit-plane .ensures))
+    sym (front-size (a .w) (a .h) (a .p) (hit (a .fg, a .bg) (imageSet (a .w) (a .h) (now (a .image)))) _ _ (sheet-bytes (s .pre .0))
+    (at-hit-plane .hit-plane .ensures))
 
 subtract-requires : tie.Need-subtract-requires
 subtract-requires c κs =
-    let s = c .before .before .before .before .before .before .before .before .before in
+    let at-hit-plane = to-hit-plane (c .before) in
+    let s = start (at-hit-plane .before) in
     let a = s .args in
-    front-size (a .w) (a .h) (a .p) (hit (a .fg, a .bg) (imageSet (a .w) (a .h) (now (a .image)))) _ _ (sheet-bytes (s .pre .0)) (c .before .before .before .before .hit-plane .ensures) ∙ sym (s .pre .1)
+    front-size (a .w) (a .h) (a .p) (hit (a .fg, a .bg) (imageSet (a .w) (a .h) (now (a .image)))) _ _ (sheet-bytes (s .pre .0))
+    (at-hit-plane .hit-plane .ensures) ∙ sym (s .pre .1)
 
 same-length : tie.Need-same-length
 same-length c = search needs
@@ -45,9 +57,12 @@ same-length-2 c = search needs
 
 returns : tie.Need-returns
 returns c =
-    let s = c .before .before .before .before .before .before .before .before .before .before .before .before in
+    let at-subtract = c .before .before in
+    let at-hit-plane = to-hit-plane (at-subtract .before .before) in
+    let s = start (at-hit-plane .before) in
     let a = s .args in
-    step-leaves (a .w) (a .h) (a .p) (a .fg, a .bg) (now (a .image)) _ (now (a .work)) _ (sheet-bytes (s .pre .0)) (s .pre .1) (s .pre .2) (s .pre .4) (λ i. c .slice-known4 .given i .fits) (c .before .before .before .before .before .before .before .hit-plane .ensures) (c .before .before .subtract .ensures)
+    step-leaves (a .w) (a .h) (a .p) (a .fg, a .bg) (now (a .image)) _ (now (a .work)) _ (sheet-bytes (s .pre .0)) (s .pre .1) (s .pre .2) (s .pre .4)
+    (λ i. c .slice-known4 .given i .fits) (at-hit-plane .hit-plane .ensures) (at-subtract .subtract .ensures)
 
 pub thin-step-spec : {M : Type 1} → statement M
 thin-step-spec =

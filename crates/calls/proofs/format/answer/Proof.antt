@@ -20,7 +20,8 @@ returns : tie.Need-returns
 returns c =
     let i = c .before .before in
     let a = i .before .before .before .before .before .before .args in
-    replied-wrong (now (a .header)) (now (a .x)) (now (a .y)) (now (a .z)) (now (a .c)) (now (a .counters)) _ (i .if1 .taken) (c .reply-bytes .ensures ∙ ap replyBytes (c .before .refused .ensures))
+    replied-wrong (now (a .header)) (now (a .x)) (now (a .y)) (now (a .z)) (now (a .c)) (now (a .counters)) _ (i .if1 .taken)
+    (c .reply-bytes .ensures ∙ ap replyBytes (c .before .refused .ensures))
 
 read-counters-requires : tie.Need-read-counters-requires
 read-counters-requires c κs = search needs
@@ -59,7 +60,9 @@ same-length-3 : tie.Need-same-length-3
 same-length-3 c = search needs
 
 same-length-4 : tie.Need-same-length-4
-same-length-4 c = let k = c .before .before .before .before .before .before .before in k .counters2 .given ∙ k .before .before .before .before .before .before .before .before .before .before .before .before .before .before .before .before .before .before .before .counters .given
+same-length-4 c =
+    let k = c .before .before .before .before .before .before .before in k .counters2 .given
+    ∙ k .before .before .before .before .before .before .before .before .before .before .before .before .before .before .before .before .before .before .before .counters .given
 
 returns-2 : tie.Need-returns-2
 returns-2 c =
@@ -71,7 +74,8 @@ returns-2 c =
     let r = w .before .before .before .before in
     let i = r .before .before .before in
     let a = i .before .before .before .before .before .before .args in
-    replied-made (now (a .header)) (now (a .x)) (now (a .y)) (now (a .z)) (now (a .c)) (now (a .counters)) _ _ _ _ _ _ _ _ _ _ _ (i .if1 .left) (w .number .ensures) (h .number2 .ensures) (e .number3 .ensures) (b .number4 .ensures) (r .read-counters .ensures)
+    replied-made (now (a .header)) (now (a .x)) (now (a .y)) (now (a .z)) (now (a .c)) (now (a .counters)) _ _ _ _ _ _ _ _ _ _ _ (i .if1 .left)
+    (w .number .ensures) (h .number2 .ensures) (e .number3 .ensures) (b .number4 .ensures) (r .read-counters .ensures)
     (k .call .ensures) (c .reply-bytes2 .ensures) (c .before .before .before .write-counters .ensures)
 
 pub answer-spec : {M : Type 1} → statement M

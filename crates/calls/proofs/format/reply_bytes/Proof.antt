@@ -50,7 +50,9 @@ array-read-t41 : tie.Need-array-read-t41
 array-read-t41 c = search needs
 
 returns : tie.Need-returns
-returns c = bytes-replied (c .before .before .before .args .r) _ _ _ (c .before .before .four-bytes .ensures) (c .before .four-bytes2 .ensures) (c .four-bytes3 .ensures)
+returns c =
+    bytes-replied (c .before .before .before .args .r) _ _ _ (c .before .before .four-bytes .ensures) (c .before .four-bytes2 .ensures)
+    (c .four-bytes3 .ensures)
 
 pub reply-bytes-spec : {M : Type 1} → statement M
 reply-bytes-spec =

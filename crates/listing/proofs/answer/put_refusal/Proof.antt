@@ -6,23 +6,47 @@ use borrow.Author.Needs.{needs}
 use Rattle.listing.proofs.answer.put_refusal.Statement.{statement}
 use Rattle.listing.proofs.answer.put_refusal.Tie as tie
 
+abbrev start : tie.After-put-bytes-arg2 → tie.Start
+start c = c .before .before .before
+
+abbrev to-put-bytes : tie.After-put-word-arg → tie.After-put-bytes
+to-put-bytes c = c .before .before .before
+
+abbrev to-put-word : tie.After-put-arg → tie.After-put-word
+to-put-word c = c .before .before .before
+
 slice-aggregate-put-bytes : tie.Need-slice-aggregate-put-bytes
 slice-aggregate-put-bytes c = search needs
 
 put-bytes-requires : tie.Need-put-bytes-requires
-put-bytes-requires c κs = let s = c .before .before .before in room-first _ _ (refusal-pieces (s .args .n)) (s .pre)
+put-bytes-requires c κs =
+    let s = start c in
+    room-first _ _ (refusal-pieces (s .args .n)) (s .pre)
 
 put-word-requires : tie.Need-put-word-requires
-put-word-requires c κs = let s = c .before .before .before .before .before .before .before in room-first _ _ refl (room-next _ _ (refusal-pieces (s .args .n)) (s .pre) (c .before .before .before .put-bytes .ensures))
+put-word-requires c κs =
+    let at-put-bytes = to-put-bytes c in
+    let s = start (at-put-bytes .before) in
+    room-first _ _ refl (room-next _ _ (refusal-pieces (s .args .n)) (s .pre) (at-put-bytes .put-bytes .ensures))
 
 put-requires : tie.Need-put-requires
-put-requires c κs = let s = c .before .before .before .before .before .before .before .before .before .before .before in room-next _ _ refl (room-next _ _ (refusal-pieces (s .args .n)) (s .pre) (c .before .before .before .before .before .before .before .put-bytes .ensures)) (c .before .before .before .put-word .ensures)
+put-requires c κs =
+    let at-put-word = to-put-word c in
+    let at-put-bytes = to-put-bytes (at-put-word .before) in
+    let s = start (at-put-bytes .before) in
+    room-next _ _ refl (room-next _ _ (refusal-pieces (s .args .n)) (s .pre) (at-put-bytes .put-bytes .ensures)) (at-put-word .put-word .ensures)
 
 same-length : tie.Need-same-length
 same-length c = search needs
 
 returns : tie.Need-returns
-returns c = appended-then _ _ (refusal-pieces (c .before .before .before .before .before .before .before .before .before .before .before .before .before .before .args .n)) (c .before .before .before .before .before .before .before .before .before .before .put-bytes .ensures) (appended-then _ _ refl (c .before .before .before .before .before .before .put-word .ensures) (c .before .before .put .ensures))
+returns c =
+    let at-put = c .before .before in
+    let at-put-word = to-put-word (at-put .before) in
+    let at-put-bytes = to-put-bytes (at-put-word .before) in
+    let s = start (at-put-bytes .before) in
+    appended-then _ _ (refusal-pieces (s .args .n)) (at-put-bytes .put-bytes .ensures)
+    (appended-then _ _ refl (at-put-word .put-word .ensures) (at-put .put .ensures))
 
 pub put-refusal-spec : {M : Type 1} → statement M
 put-refusal-spec =

@@ -67,7 +67,9 @@ put-decimal-returns : (t : ℕ) → put-decimal-lts.Need-returns (
   put-decimal-below t,
   put-decimal.Post,
 ) (put-decimal-at t) put-decimal.Post
-put-decimal-returns t c = let s = c .before .before .before .before .before .before in appended-as (sym (decimal-small (s .args .n) (c .before .before .before .before .if1 .taken))) (c .before .before .put .ensures)
+put-decimal-returns t c =
+    let s = c .before .before .before .before .before .before in appended-as (sym (decimal-small (s .args .n) (c .before .before .before .before .if1 .taken)))
+    (c .before .before .put .ensures)
 
 -- src/text.rt:42:9
 put-decimal-put-decimal-requires : (t : ℕ) → put-decimal-lts.Need-put-decimal-requires (
@@ -76,7 +78,8 @@ put-decimal-put-decimal-requires : (t : ℕ) → put-decimal-lts.Need-put-decima
   put-decimal-below t,
   put-decimal.Post,
 ) (put-decimal-at t) put-decimal.Post
-put-decimal-put-decimal-requires t c κs = let s = c .before .before .before in (omega arith, room-first _ _ (decimal-large (s .args .n) (c .before .if1 .left)) (s .pre .1))
+put-decimal-put-decimal-requires t c κs =
+    let s = c .before .before .before in (omega arith, room-first _ _ (decimal-large (s .args .n) (c .before .if1 .left)) (s .pre .1))
 
 -- src/text.rt:43:16
 put-decimal-cast-put-2 : (t : ℕ) → put-decimal-lts.Need-cast-put-2 (
@@ -103,7 +106,9 @@ put-decimal-put-requires-2 : (t : ℕ) → put-decimal-lts.Need-put-requires-2 (
   put-decimal-below t,
   put-decimal.Post,
 ) (put-decimal-at t) put-decimal.Post
-put-decimal-put-requires-2 t c κs = let s = c .before .before .before .before .before .before .before in room-next _ _ (decimal-large (s .args .n) (c .before .before .before .before .before .if1 .left)) (s .pre .1) (c .before .before .before .put-decimal .ensures)
+put-decimal-put-requires-2 t c κs =
+    let s = c .before .before .before .before .before .before .before in room-next _ _
+    (decimal-large (s .args .n) (c .before .before .before .before .before .if1 .left)) (s .pre .1) (c .before .before .before .put-decimal .ensures)
 
 -- src/text.rt:35:1
 put-decimal-same-length-2 : (t : ℕ) → put-decimal-lts.Need-same-length-2 (
@@ -121,7 +126,10 @@ put-decimal-returns-2 : (t : ℕ) → put-decimal-lts.Need-returns-2 (
   put-decimal-below t,
   put-decimal.Post,
 ) (put-decimal-at t) put-decimal.Post
-put-decimal-returns-2 t c = let s = c .before .before .before .before .before .before .before .before .before .before in appended-then _ _ (decimal-large (s .args .n) (c .before .before .before .before .before .before .before .before .if1 .left)) (c .before .before .before .before .before .before .put-decimal .ensures) (c .before .before .put2 .ensures)
+put-decimal-returns-2 t c =
+    let s = c .before .before .before .before .before .before .before .before .before .before in appended-then _ _
+    (decimal-large (s .args .n) (c .before .before .before .before .before .before .before .before .if1 .left))
+    (c .before .before .before .before .before .before .put-decimal .ensures) (c .before .before .put2 .ensures)
 
 pub +put-decimal-spec : {M : Type 1} → statement M
 +put-decimal-spec = close μ-put-decimal λ t. put-decimal-lts.spec (

@@ -44,9 +44,11 @@ loop-less c = omega arith
 -- src/text.rt:27:5
 loop-again : tie.Need-loop-again Inv-loop μ-loop
 loop-again c =
-    let l = c .before .before .loop in
-    let a = c .before .before .before .args in
-    (omega arith, appended-turn (now (a .text)) (now (a .out)) (l .out) (a .at) (l .i) (omega arith) (c .before .before .before .pre) (l .inv .1))
+    let at-loop = c .before .before in
+    let s = at-loop .before in
+    let l = at-loop .loop in
+    let a = s .args in
+    (omega arith, appended-turn (now (a .text)) (now (a .out)) (l .out) (a .at) (l .i) (omega arith) (s .pre) (l .inv .1))
 
 -- src/text.rt:31:5
 add-result : tie.Need-add-result Inv-loop μ-loop
@@ -59,8 +61,9 @@ same-length c = c .before .loop .inv .1 .size
 -- src/text.rt:22:1
 returns : tie.Need-returns Inv-loop μ-loop
 returns c =
+    let s = c .before .before in
     let l = c .before .loop in
-    let a = c .before .before .args in
+    let a = s .args in
     appended-as (take-all (l .i) (now (a .text)) (omega arith)) (l .inv .1)
 
 pub put-bytes-spec : {M : Type 1} → statement M

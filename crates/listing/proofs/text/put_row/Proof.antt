@@ -17,19 +17,31 @@ Inv-loop row at out₀ next₀ i₀ out next i = (i ≤ length row) × Appended 
 abbrev μ-loop : tie.MeasureT-loop
 μ-loop row at out₀ next₀ i₀ out next i = length row - i
 
+abbrev start : tie.At-loop Inv-loop μ-loop → tie.Start Inv-loop μ-loop
+start c = c .before .before .before
+
+abbrev to-at-loop : tie.After-put-word-arg Inv-loop μ-loop → tie.At-loop Inv-loop μ-loop
+to-at-loop c = c .before .before .before
+
 loop-holds : tie.Need-loop-holds Inv-loop μ-loop
-loop-holds c = let a = c .before .before .args in (omega arith, spaced-none (words (now (a .row))) (appended-none (a .at) (now (a .out))))
+loop-holds c =
+    let s = c .before .before in
+    let a = s .args in
+    (omega arith, spaced-none (words (now (a .row))) (appended-none (a .at) (now (a .out))))
 
 shared-slice-read-put-word : tie.Need-shared-slice-read-put-word Inv-loop μ-loop
 shared-slice-read-put-word c = omega arith
 
 cast-put-word : tie.Need-cast-put-word Inv-loop μ-loop
-cast-put-word c = omega (arith, c .shared-slice-known2 .given (c .before .before .loop .i))
+cast-put-word c =
+    let at-loop = c .before .before in
+    omega (arith, c .shared-slice-known2 .given (at-loop .loop .i))
 
 put-word-requires : tie.Need-put-word-requires Inv-loop μ-loop
 put-word-requires c κs =
-    let s = c .before .before .before .before .before .before in
-    let l = c .before .before .before .loop in
+    let at-loop = to-at-loop c in
+    let s = start at-loop in
+    let l = at-loop .loop in
     let row = now (s .args .row) in
     room-next _ _ (line-more row (l .i) (omega arith)) (room-less (line-le row (l .i + 1)) (s .pre)) (l .inv .1)
 
@@ -41,22 +53,32 @@ loop-less c = omega arith
 
 loop-again : tie.Need-loop-again Inv-loop μ-loop
 loop-again c =
-    let l = c .before .before .before .before .before .before .loop in
-    (omega arith, appended-then _ _ (line-more (now (c .before .before .before .before .before .before .before .before .before .args .row)) (l .i) (omega arith)) (l .inv .1) (c .before .before .put-word .ensures))
+    let at-put-word = c .before .before in
+    let at-loop = to-at-loop (at-put-word .before) in
+    let s = start at-loop in
+    let l = at-loop .loop in
+    (omega arith, appended-then _ _ (line-more (now (s .args .row)) (l .i) (omega arith)) (l .inv .1) (at-put-word .put-word .ensures))
 
 put-requires : tie.Need-put-requires Inv-loop μ-loop
 put-requires c κs =
-    let s = c .before .before .before .before .before in
-    let l = c .before .before .loop in
+    let at-loop = c .before .before in
+    let s = start at-loop in
+    let l = at-loop .loop in
     room-next _ _ (line-end (now (s .args .row)) (l .i) (omega arith)) (s .pre) (l .inv .1)
 
 same-length : tie.Need-same-length Inv-loop μ-loop
-same-length c = c .before .before .put .ensures .size ∙ c .before .before .before .before .before .loop .inv .1 .size
+same-length c =
+    let at-put = c .before .before in
+    let at-loop = at-put .before .before .before in
+    at-put .put .ensures .size ∙ at-loop .loop .inv .1 .size
 
 returns : tie.Need-returns Inv-loop μ-loop
 returns c =
-    let l = c .before .before .before .before .before .loop in
-    appended-then _ _ (line-end (now (c .before .before .before .before .before .before .before .before .args .row)) (l .i) (omega arith)) (l .inv .1) (c .before .before .put .ensures)
+    let at-put = c .before .before in
+    let at-loop = at-put .before .before .before in
+    let s = start at-loop in
+    let l = at-loop .loop in
+    appended-then _ _ (line-end (now (s .args .row)) (l .i) (omega arith)) (l .inv .1) (at-put .put .ensures)
 
 pub put-row-spec : {M : Type 1} → statement M
 put-row-spec =

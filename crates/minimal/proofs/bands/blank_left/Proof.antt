@@ -19,10 +19,17 @@ loop-holds : tie.Need-loop-holds Inv-loop μ-loop
 loop-holds c = let a = c .before .args in (omega arith, strip-none (a .r) (a .from) 0 (a .r) (now (a .plane)))
 
 mul-row-left : tie.Need-mul-row-left Inv-loop μ-loop
-mul-row-left c = let s = c .before .before .before in let a = s .args in omega (arith, row-in (c .before .loop .y) (a .to) (a .r) (length (now (a .plane))) (c .loop-test .taken) (s .pre))
+mul-row-left c =
+    let s = c .before .before .before in
+    let a = s .args in
+    omega (arith, row-in (c .before .loop .y) (a .to) (a .r) (length (now (a .plane))) (c .loop-test .taken) (s .pre))
 
 row-left-requires : tie.Need-row-left-requires Inv-loop μ-loop
-row-left-requires c κs = let s = c .before .before .before in let a = s .args in omega (arith, row-in (c .before .loop .y) (a .to) (a .r) (length (now (a .plane))) (c .loop-test .taken) (s .pre), c .before .loop .inv .0)
+row-left-requires c κs =
+    let at-loop = c .before in
+    let s = at-loop .before .before in
+    let a = s .args in
+    omega (arith, row-in (at-loop .loop .y) (a .to) (a .r) (length (now (a .plane))) (c .loop-test .taken) (s .pre), at-loop .loop .inv .0)
 
 add-y : tie.Need-add-y Inv-loop μ-loop
 add-y c = omega (arith, c .before .loop-test .taken)
@@ -32,14 +39,20 @@ loop-less c = omega (arith, c .before .loop-test .taken)
 
 loop-again : tie.Need-loop-again Inv-loop μ-loop
 loop-again c =
-    let a = c .before .before .before .before .args in
-    let l = c .before .before .loop in
-    let e = c .row-left .ensures in
-    (omega (arith, e .0, l .inv .0), strip-more (a .r) (a .from) (l .y) 0 (l .left) 0 _ (now (a .plane)) (omega arith) (e .0) (l .inv .1) (λ j lo hi. e .1 j (omega arith) hi))
+    let at-loop = c .before .before in
+    let s = at-loop .before .before in
+    let a = s .args in
+    let l = at-loop .loop in
+    let e = c .row-left .ensures in (
+      omega (arith, e .0, l .inv .0),
+      strip-more (a .r) (a .from) (l .y) 0 (l .left) 0 _ (now (a .plane)) (omega arith) (e .0) (l .inv .1)
+          (λ j lo hi. e .1 j (omega arith) hi),
+    )
 
 returns : tie.Need-returns Inv-loop μ-loop
 returns c =
-    let a = c .before .before .before .args in
+    let s = c .before .before .before in
+    let a = s .args in
     let l = c .before .loop in
     (l .inv .0, strip-end (a .r) (a .from) (l .y) (a .to) 0 (l .left) (now (a .plane)) (omega (arith, c .loop-test .left)) (l .inv .1))
 

@@ -16,13 +16,23 @@ abbrev μ-loop : tie.MeasureT-loop
 μ-loop plane r from to left right₀ y₀ right y = to - y
 
 loop-holds : tie.Need-loop-holds Inv-loop μ-loop
-loop-holds c = let s = c .before in let a = s .args in (omega arith, s .pre .1, strip-none (a .r) (a .from) (a .left) (a .r) (now (a .plane)))
+loop-holds c =
+    let s = c .before in
+    let a = s .args in
+    (omega arith, s .pre .1, strip-none (a .r) (a .from) (a .left) (a .r) (now (a .plane)))
 
 mul-row-right : tie.Need-mul-row-right Inv-loop μ-loop
-mul-row-right c = let s = c .before .before .before in let a = s .args in omega (arith, row-in (c .before .loop .y) (a .to) (a .r) (length (now (a .plane))) (c .loop-test .taken) (s .pre .0))
+mul-row-right c =
+    let s = c .before .before .before in
+    let a = s .args in
+    omega (arith, row-in (c .before .loop .y) (a .to) (a .r) (length (now (a .plane))) (c .loop-test .taken) (s .pre .0))
 
 row-right-requires : tie.Need-row-right-requires Inv-loop μ-loop
-row-right-requires c κs = let s = c .before .before .before in let a = s .args in (row-in (c .before .loop .y) (a .to) (a .r) (length (now (a .plane))) (c .loop-test .taken) (s .pre .0), c .before .loop .inv .1)
+row-right-requires c κs =
+    let at-loop = c .before in
+    let s = at-loop .before .before in
+    let a = s .args in
+    (row-in (at-loop .loop .y) (a .to) (a .r) (length (now (a .plane))) (c .loop-test .taken) (s .pre .0), at-loop .loop .inv .1)
 
 add-y : tie.Need-add-y Inv-loop μ-loop
 add-y c = omega (arith, c .before .loop-test .taken)
@@ -32,14 +42,21 @@ loop-less c = omega (arith, c .before .loop-test .taken)
 
 loop-again : tie.Need-loop-again Inv-loop μ-loop
 loop-again c =
-    let a = c .before .before .before .before .args in
-    let l = c .before .before .loop in
-    let e = c .row-right .ensures in
-    (omega (arith, e .0, l .inv .0), e .1, strip-more (a .r) (a .from) (l .y) (l .right) (a .r) _ (a .r) (now (a .plane)) (e .0) (omega arith) (l .inv .2) (e .2))
+    let at-loop = c .before .before in
+    let s = at-loop .before .before in
+    let a = s .args in
+    let l = at-loop .loop in
+    let e = c .row-right .ensures in (
+      omega (arith, e .0, l .inv .0),
+      e .1,
+      strip-more (a .r) (a .from) (l .y) (l .right) (a .r) _ (a .r) (now (a .plane)) (e .0) (omega arith) (l .inv .2)
+          (e .2),
+    )
 
 returns : tie.Need-returns Inv-loop μ-loop
 returns c =
-    let a = c .before .before .before .args in
+    let s = c .before .before .before in
+    let a = s .args in
     let l = c .before .loop in
     (l .inv .0, l .inv .1, strip-end (a .r) (a .from) (l .y) (a .to) (l .right) (a .r) (now (a .plane)) (omega (arith, c .loop-test .left)) (l .inv .2))
 

@@ -17,25 +17,38 @@ loop-holds : tie.Need-loop-holds Inv-loop μ-loop
 loop-holds c = (omega arith, λ x lo hi. absurd (omega arith))
 
 add-if1 : tie.Need-add-if1 Inv-loop μ-loop
-add-if1 c = omega (arith, c .loop-test .taken, c .before .before .pre)
+add-if1 c =
+    let s = c .before .before in
+    omega (arith, c .loop-test .taken, s .pre)
 
 shared-slice-read-if1 : tie.Need-shared-slice-read-if1 Inv-loop μ-loop
-shared-slice-read-if1 c = omega (arith, c .before .loop-test .taken, c .before .before .before .pre)
+shared-slice-read-if1 c =
+    let s = c .before .before .before in
+    omega (arith, c .before .loop-test .taken, s .pre)
 
 returns : tie.Need-returns Inv-loop μ-loop
-returns c = c .before .before .before .loop .inv
+returns c =
+    let at-loop = c .before .before .before in
+    at-loop .loop .inv
 
 add-j : tie.Need-add-j Inv-loop μ-loop
-add-j c = omega (arith, c .before .before .loop-test .taken)
+add-j c =
+    let in-loop = c .before .before in
+    omega (arith, in-loop .loop-test .taken)
 
 loop-less : tie.Need-loop-less Inv-loop μ-loop
-loop-less c = omega (arith, c .before .before .loop-test .taken)
+loop-less c =
+    let in-loop = c .before .before in
+    omega (arith, in-loop .loop-test .taken)
 
 loop-again : tie.Need-loop-again Inv-loop μ-loop
 loop-again c =
-    let a = c .before .before .before .before .args in
-    let l = c .before .before .before .loop in
-    (omega (arith, c .before .before .loop-test .taken), blank-more (a .d) (a .d + l .j) (a .d + (l .j + 1)) (now (a .plane)) (omega arith) (l .inv .1) (c .if1 .left))
+    let in-loop = c .before .before in
+    let at-loop = in-loop .before in
+    let s = at-loop .before in
+    let a = s .args in
+    let l = at-loop .loop in
+    (omega (arith, in-loop .loop-test .taken), blank-more (a .d) (a .d + l .j) (a .d + (l .j + 1)) (now (a .plane)) (omega arith) (l .inv .1) (c .if1 .left))
 
 returns-2 : tie.Need-returns-2 Inv-loop μ-loop
 returns-2 c = c .before .loop .inv

@@ -20,26 +20,44 @@ sub-if1 : tie.Need-sub-if1 Inv-loop μ-loop
 sub-if1 c = omega (arith, c .loop-test .taken)
 
 add-if1 : tie.Need-add-if1 Inv-loop μ-loop
-add-if1 c = omega (arith, c .loop-test .taken, c .before .loop .inv .1, c .before .before .pre .0)
+add-if1 c =
+    let s = c .before .before in
+    omega (arith, c .loop-test .taken, c .before .loop .inv .1, s .pre .0)
 
 shared-slice-read-if1 : tie.Need-shared-slice-read-if1 Inv-loop μ-loop
-shared-slice-read-if1 c = omega (arith, c .before .loop-test .taken, c .before .before .loop .inv .1, c .before .before .before .pre .0)
+shared-slice-read-if1 c =
+    let at-loop = c .before .before in
+    let s = at-loop .before in
+    omega (arith, c .before .loop-test .taken, at-loop .loop .inv .1, s .pre .0)
 
 returns : tie.Need-returns Inv-loop μ-loop
-returns c = c .before .before .before .loop .inv
+returns c =
+    let at-loop = c .before .before .before in
+    at-loop .loop .inv
 
 sub-j : tie.Need-sub-j Inv-loop μ-loop
-sub-j c = omega (arith, c .before .before .loop-test .taken)
+sub-j c =
+    let in-loop = c .before .before in
+    omega (arith, in-loop .loop-test .taken)
 
 loop-less : tie.Need-loop-less Inv-loop μ-loop
-loop-less c = omega (arith, c .before .before .loop-test .taken)
+loop-less c =
+    let in-loop = c .before .before in
+    omega (arith, in-loop .loop-test .taken)
 
 loop-again : tie.Need-loop-again Inv-loop μ-loop
 loop-again c =
-    let a = c .before .before .before .before .args in
-    let l = c .before .before .before .loop in
-    let t = c .before .before .loop-test .taken in
-    (omega (arith, t), omega (arith, l .inv .1), blank-less (a .d + l .j) (a .d + (l .j - 1)) (a .d + a .r) (now (a .plane)) (omega (arith, t)) (c .if1 .left) (l .inv .2))
+    let in-loop = c .before .before in
+    let at-loop = in-loop .before in
+    let s = at-loop .before in
+    let a = s .args in
+    let l = at-loop .loop in
+    let t = in-loop .loop-test .taken in (
+      omega (arith, t),
+      omega (arith, l .inv .1),
+      blank-less (a .d + l .j) (a .d + (l .j - 1)) (a .d + a .r) (now (a .plane)) (omega (arith, t)) (c .if1 .left)
+          (l .inv .2),
+    )
 
 returns-2 : tie.Need-returns-2 Inv-loop μ-loop
 returns-2 c = c .before .loop .inv

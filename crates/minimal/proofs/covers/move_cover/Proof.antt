@@ -10,66 +10,100 @@ use Rattle.minimal.proofs.covers.move_cover.Statement.{statement}
 use Rattle.minimal.proofs.covers.move_cover.Tie as tie
 
 abbrev Inv-loop : tie.InvT-loop
-Inv-loop up plane w h r band a i counters₀ end y₀ counters y = (band .above ≤ y) × (y ≤ h - band .under) × (end ≡ h - band .under) × Moved up (hits (below (y * w) (inkAt w h plane)) i a) counters₀ counters
+Inv-loop up plane w h r band a i counters₀ end y₀ counters y =
+    (band .above ≤ y) × (y ≤ h - band .under) × (end ≡ h - band .under) × Moved up (hits (below (y * w) (inkAt w h plane)) i a) counters₀ counters
 
 abbrev μ-loop : tie.MeasureT-loop
 μ-loop up plane w h r band a i counters₀ end y₀ counters y = end - y
 
+abbrev start : tie.After-struct-known Inv-loop μ-loop → tie.Start Inv-loop μ-loop
+start c = c .before .before .before
+
+abbrev to-in-loop : tie.After-slice-known2 Inv-loop μ-loop → tie.In-loop Inv-loop μ-loop
+to-in-loop c = c .before .before .before .before
+
 sub-end : tie.Need-sub-end Inv-loop μ-loop
-sub-end c = omega (arith, c .before .before .before .pre .0 .bounds .rows)
+sub-end c =
+    let s = start c in
+    omega (arith, s .pre .0 .bounds .rows)
 
 loop-holds : tie.Need-loop-holds Inv-loop μ-loop
 loop-holds c =
-    let s = c .before .before .before in
-    let a = s .args in
-    (omega arith, omega (arith, s .pre .0 .bounds .rows), refl, band-start (a .w) (a .h) (a .r) (a .band) (now (a .plane)) (s .pre .0) (a .a) (a .i) (a .up) (now (a .counters)))
+    let s = start c in
+    let a = s .args in (
+      omega arith,
+      omega (arith, s .pre .0 .bounds .rows),
+      refl,
+      band-start (a .w) (a .h) (a .r) (a .band) (now (a .plane)) (s .pre .0) (a .a) (a .i) (a .up)
+          (now (a .counters)),
+    )
 
 mul-move-row : tie.Need-mul-move-row Inv-loop μ-loop
 mul-move-row c =
-    let s = c .before .before .before .before .before in
+    let at-loop = c .before in
+    let s = start (at-loop .before) in
     let a = s .args in
-    let t = room (a .w) (a .h) (a .r) (a .band) (now (a .plane)) (s .pre .0) (c .before .loop .y) (omega (arith, c .before .loop .inv .2, c .loop-test .taken)) in
+    let t = room (a .w) (a .h) (a .r) (a .band) (now (a .plane)) (s .pre .0) (at-loop .loop .y) (omega (arith, at-loop .loop .inv .2, c .loop-test .taken)) in
     omega (arith, t .row)
 
 mul-move-row-2 : tie.Need-mul-move-row-2 Inv-loop μ-loop
 mul-move-row-2 c =
-    let s = c .before .before .before .before .before in
+    let at-loop = c .before in
+    let s = start (at-loop .before) in
     let a = s .args in
-    let t = room (a .w) (a .h) (a .r) (a .band) (now (a .plane)) (s .pre .0) (c .before .loop .y) (omega (arith, c .before .loop .inv .2, c .loop-test .taken)) in
+    let t = room (a .w) (a .h) (a .r) (a .band) (now (a .plane)) (s .pre .0) (at-loop .loop .y) (omega (arith, at-loop .loop .inv .2, c .loop-test .taken)) in
     omega (arith, t .small)
 
 add-move-row : tie.Need-add-move-row Inv-loop μ-loop
 add-move-row c =
-    let s = c .before .before .before .before .before in
+    let at-loop = c .before in
+    let s = start (at-loop .before) in
     let a = s .args in
-    let t = room (a .w) (a .h) (a .r) (a .band) (now (a .plane)) (s .pre .0) (c .before .loop .y) (omega (arith, c .before .loop .inv .2, c .loop-test .taken)) in
+    let t = room (a .w) (a .h) (a .r) (a .band) (now (a .plane)) (s .pre .0) (at-loop .loop .y) (omega (arith, at-loop .loop .inv .2, c .loop-test .taken)) in
     omega (arith, t .small, s .pre .1)
 
 move-row-requires : tie.Need-move-row-requires Inv-loop μ-loop
 move-row-requires c κs =
-    let s = c .before .before .before .before .before .before in
+    let at-loop = c .before .before in
+    let s = start (at-loop .before) in
     let a = s .args in
-    let l = c .before .before .loop in
+    let l = at-loop .loop in
     let h : l .y < a .h - a .band .under = omega (arith, l .inv .2, c .before .loop-test .taken) in
-    let t = room (a .w) (a .h) (a .r) (a .band) (now (a .plane)) (s .pre .0) (l .y) h in
-    (omega (arith, t .small, s .pre .1), t .narrow, t .row, margins (a .w) (a .h) (a .r) (a .band) (now (a .plane)) (s .pre .0) (l .y) (l .inv .0) h, band-open (a .w) (a .h) (a .r) (a .band) (now (a .plane)) (s .pre .0) (a .a) (a .i) (a .up) (l .y) (now (a .counters)) (l .counters) h (s .pre .2) (l .inv .3))
+    let t = room (a .w) (a .h) (a .r) (a .band) (now (a .plane)) (s .pre .0) (l .y) h in (
+      record {
+        near = omega (arith, t .small, s .pre .1);
+        stride = t .narrow;
+        bytes = t .row;
+        margins = margins (a .w) (a .h) (a .r) (a .band) (now (a .plane)) (s .pre .0) (l .y) (l .inv .0) h;
+      },
+      band-open (a .w) (a .h) (a .r) (a .band) (now (a .plane)) (s .pre .0) (a .a) (a .i) (a .up) (l .y) (now (a .counters)) (l .counters) h (s .pre .2)
+          (l .inv .3),
+    )
 
 add-y : tie.Need-add-y Inv-loop μ-loop
-add-y c = omega (arith, c .before .before .before .before .loop-test .taken)
+add-y c =
+    let in-loop = to-in-loop c in
+    omega (arith, in-loop .loop-test .taken)
 
 loop-less : tie.Need-loop-less Inv-loop μ-loop
-loop-less c = omega (arith, c .before .before .before .before .loop-test .taken)
+loop-less c =
+    let in-loop = to-in-loop c in
+    omega (arith, in-loop .loop-test .taken)
 
 loop-again : tie.Need-loop-again Inv-loop μ-loop
 loop-again c =
-    let s = c .before .before .before .before .before .before .before .before .before in
+    let at-move-row = c .before .before in
+    let in-loop = to-in-loop c in
+    let at-loop = in-loop .before in
+    let s = start (at-loop .before) in
     let a = s .args in
-    let l = c .before .before .before .before .before .loop in
-    let t = c .before .before .before .before .loop-test .taken in (
+    let l = at-loop .loop in
+    let t = in-loop .loop-test .taken in (
       omega (arith, l .inv .0),
       omega (arith, l .inv .2, t),
       l .inv .2,
-      band-more (a .w) (a .h) (a .r) (a .band) (now (a .plane)) (s .pre .0) (a .a) (a .i) (a .up) (l .y) (now (a .counters)) (l .counters) _ (omega (arith, l .inv .2, t)) (l .inv .3) (c .before .before .move-row .ensures),
+      band-more (a .w) (a .h) (a .r) (a .band) (now (a .plane)) (s .pre .0) (a .a) (a .i) (a .up) (l .y) (now (a .counters)) (l .counters) _
+          (omega (arith, l .inv .2, t)) (l .inv .3) (at-move-row .move-row .ensures),
     )
 
 same-length : tie.Need-same-length Inv-loop μ-loop
@@ -77,10 +111,11 @@ same-length c = c .before .loop .inv .3 .size
 
 returns : tie.Need-returns Inv-loop μ-loop
 returns c =
-    let s = c .before .before .before .before .before in
+    let s = start (c .before .before) in
     let a = s .args in
     let l = c .before .loop in
-    band-last (a .w) (a .h) (a .r) (a .band) (now (a .plane)) (s .pre .0) (a .a) (a .i) (a .up) (l .y) (now (a .counters)) (l .counters) (omega (arith, l .inv .1, l .inv .2, c .loop-test .left)) (l .inv .3)
+    band-last (a .w) (a .h) (a .r) (a .band) (now (a .plane)) (s .pre .0) (a .a) (a .i) (a .up) (l .y) (now (a .counters)) (l .counters)
+    (omega (arith, l .inv .1, l .inv .2, c .loop-test .left)) (l .inv .3)
 
 pub move-cover-spec : {M : Type 1} → statement M
 move-cover-spec =

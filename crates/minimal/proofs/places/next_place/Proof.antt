@@ -1,4 +1,4 @@
--- `minimal::places::next_place` meets its contract.
+-- `minimal::places::next_place` meets its contract. What three searches one after the other pass over is without v.
 use native.Mathlib.Omega.{arith}
 use borrow.Author.Needs.{needs}
 use borrow.Author.Tests.{eqb-true}
@@ -14,7 +14,7 @@ returns : tie.Need-returns
 returns c =
     let s = c .before .before .before .before in
     let a = s .args in
-    (omega arith, s .pre, without-none (a .v) (a .from) (now (a .labels)), λ h. eqb-true _ _ (c .if2 .taken))
+    record { after = omega arith; within = s .pre; without = without-none (a .v) (a .from) (now (a .labels)); label = λ h. eqb-true _ _ (c .if2 .taken) }
 
 past-blocks-requires : tie.Need-past-blocks-requires
 past-blocks-requires c κs = search needs
@@ -27,12 +27,19 @@ past-places-requires c κs = search needs
 
 returns-2 : tie.Need-returns-2
 returns-2 c =
-    let a = c .before .before .before .before .before .args in
-    let f = c .before .before .past-blocks .ensures in
+    let at-past-blocks = c .before .before in
+    let s = at-past-blocks .before .before .before in
+    let a = s .args in
+    let f = at-past-blocks .past-blocks .ensures in
     let b = c .before .past-blocks2 .ensures in
     let e = c .past-places .ensures in
     let m = now (a .labels) in
-    (omega (arith, f .0, b .0, e .0), e .1, without-both (a .v) (a .from) _ _ m (without-both (a .v) (a .from) _ _ m (f .2) (b .2)) (e .2), e .3)
+    record {
+      after = omega (arith, f .0, b .0, e .after);
+      within = e .within;
+      without = without-both (a .v) (a .from) _ _ m (without-both (a .v) (a .from) _ _ m (f .2) (b .2)) (e .without);
+      label = e .label;
+    }
 
 pub next-place-spec : {M : Type 1} → statement M
 next-place-spec =

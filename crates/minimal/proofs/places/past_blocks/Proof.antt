@@ -15,8 +15,14 @@ Inv-loop labels v k from i₀ i = (from ≤ i) × (i ≤ length labels) × Witho
 abbrev μ-loop : tie.MeasureT-loop
 μ-loop labels v k from i₀ i = length labels - i
 
+abbrev to-in-loop : tie.Else1 Inv-loop μ-loop → tie.In-loop Inv-loop μ-loop
+to-in-loop c = c .before .before .before
+
 loop-holds : tie.Need-loop-holds Inv-loop μ-loop
-loop-holds c = let s = c .before in let a = s .args in (omega arith, s .pre .0, without-none (a .v) (a .from) (now (a .labels)))
+loop-holds c =
+    let s = c .before in
+    let a = s .args in
+    (omega arith, s .pre .0, without-none (a .v) (a .from) (now (a .labels)))
 
 sub-loop : tie.Need-sub-loop Inv-loop μ-loop
 sub-loop c = c .loop .inv .1
@@ -37,19 +43,31 @@ has-label-requires : tie.Need-has-label-requires Inv-loop μ-loop
 has-label-requires c κs = tt
 
 returns : tie.Need-returns Inv-loop μ-loop
-returns c = c .before .before .before .before .loop .inv
+returns c =
+    let at-loop = c .before .before .before .before in
+    at-loop .loop .inv
 
 add-i : tie.Need-add-i Inv-loop μ-loop
-add-i c = omega (arith, c .before .before .before .loop-test .taken, c .before .before .before .before .loop .inv .1)
+add-i c =
+    let in-loop = to-in-loop c in
+    let at-loop = in-loop .before in
+    omega (arith, in-loop .loop-test .taken, at-loop .loop .inv .1)
 
 loop-less : tie.Need-loop-less Inv-loop μ-loop
-loop-less c = omega (arith, c .before .before .before .before .before .before .pre .1, c .before .before .before .loop-test .taken, c .before .before .before .before .loop .inv .1)
+loop-less c =
+    let in-loop = to-in-loop c in
+    let at-loop = in-loop .before in
+    let s = at-loop .before .before in
+    omega (arith, s .pre .1, in-loop .loop-test .taken, at-loop .loop .inv .1)
 
 loop-again : tie.Need-loop-again Inv-loop μ-loop
 loop-again c =
-    let a = c .before .before .before .before .before .before .args in
-    let l = c .before .before .before .before .loop in
-    let t = c .before .before .before .loop-test .taken in
+    let in-loop = to-in-loop c in
+    let at-loop = in-loop .before in
+    let s = at-loop .before .before in
+    let a = s .args in
+    let l = at-loop .loop in
+    let t = in-loop .loop-test .taken in
     let h : l .i + a .k ≤ length (now (a .labels)) = omega (arith, t, l .inv .1) in (
       omega (arith, l .inv .0),
       h,

@@ -48,7 +48,8 @@ returns c =
     let l = c .before .loop in
     let d = now (c .before .before .args .counters) in
     let e : l .i ≡ length d = omega arith in
-    l .inv .1 ∙ ap (λ (n : ℕ). replicate n 0 ++ drop n d) e ∙ ap (λ (t : List ℕ). replicate (length d) 0 ++ t) (drop-length d) ∙ append-nil (replicate (length d) 0)
+    l .inv .1 ∙ ap (λ (n : ℕ). replicate n 0 ++ drop n d) e ∙ ap (λ (t : List ℕ). replicate (length d) 0 ++ t) (drop-length d)
+    ∙ append-nil (replicate (length d) 0)
 
 pub clear-spec : {M : Type 1} → statement M
 clear-spec =

@@ -1,4 +1,4 @@
--- `minimal::sizes::count_size` meets its contract.
+-- `minimal::sizes::count_size` meets its contract. The invariant: the covers of the points of size n before place i are counted. The measure is what is left of the labels.
 use mathlib.Core.Path.{_∙_, _≡_, refl, subst, sym}
 use Prim.Native.Nat.{_*_, _+_, _-_, _<_, _≤_, ℕ}
 use native.Mathlib.Omega.{arith}
@@ -20,8 +20,16 @@ Inv-loop w h r p element a n labels work counters₀ band v i₀ counters i =
 abbrev μ-loop : tie.MeasureT-loop
 μ-loop w h r p element a n labels work counters₀ band v i₀ counters i = length labels - i
 
+abbrev start : tie.After-band-of Inv-loop μ-loop → tie.Start Inv-loop μ-loop
+start c = c .before .before .before .before .before
+
+abbrev to-in-loop : tie.After-slice-known3 Inv-loop μ-loop → tie.In-loop Inv-loop μ-loop
+to-in-loop c = c .before .before .before .before .before
+
 slice-reshare-prefix-band-of : tie.Need-slice-reshare-prefix-band-of Inv-loop μ-loop
-slice-reshare-prefix-band-of c = let s = c .before .before .before in omega (arith, s .pre .0 .planes)
+slice-reshare-prefix-band-of c =
+    let s = c .before .before .before in
+    omega (arith, s .pre .0 .planes)
 
 slice-aggregate-band-of : tie.Need-slice-aggregate-band-of Inv-loop μ-loop
 slice-aggregate-band-of c =
@@ -36,80 +44,121 @@ band-of-requires c κs =
     plane-rows (a .w) (a .h) (a .r) (a .p) (offsets (a .element)) (a .n) (a .a) (now (a .work)) (s .pre .0)
 
 add-v : tie.Need-add-v Inv-loop μ-loop
-add-v c = omega (arith, c .before .before .before .before .before .pre .2)
+add-v c =
+    let s = start c in
+    omega (arith, s .pre .2)
 
 cast-v : tie.Need-cast-v Inv-loop μ-loop
-cast-v c = omega (arith, c .before .before .before .before .before .pre .2)
+cast-v c =
+    let s = start c in
+    omega (arith, s .pre .2)
 
 next-place-requires : tie.Need-next-place-requires Inv-loop μ-loop
 next-place-requires c κs = omega arith
 
 loop-holds : tie.Need-loop-holds Inv-loop μ-loop
 loop-holds c =
-    let s = c .before .before .before .before .before .before in
+    let s = start (c .before) in
     let a = s .args in
     let b = c .before .band-of .ensures in
-    let e = c .next-place .ensures in
-    (refl, e .1, plane-banded (a .w) (a .h) (a .r) (a .p) (offsets (a .element)) (a .n) (a .a) (now (a .work)) (s .pre .0) _ b, counting-gap (a .w) (a .h) (offsets (a .element)) (now (a .labels)) (a .n) 0 _ (now (a .counters)) (e .0) (e .2) (s .pre .3))
+    let e = c .next-place .ensures in (
+      refl,
+      e .within,
+      plane-banded (a .w) (a .h) (a .r) (a .p) (offsets (a .element)) (a .n) (a .a) (now (a .work)) (s .pre .0) _ b,
+      counting-gap (a .w) (a .h) (offsets (a .element)) (now (a .labels)) (a .n) 0 _ (now (a .counters)) (e .after) (e .without) (s .pre .3),
+    )
 
 slice-reshare-prefix-count-at : tie.Need-slice-reshare-prefix-count-at Inv-loop μ-loop
-slice-reshare-prefix-count-at c = let s = c .before .before .before .before .before .before .before .before in omega (arith, s .pre .0 .planes)
+slice-reshare-prefix-count-at c =
+    let s = start (c .before .before .before) in
+    omega (arith, s .pre .0 .planes)
 
 slice-aggregate-count-at : tie.Need-slice-aggregate-count-at Inv-loop μ-loop
 slice-aggregate-count-at c =
-    let s = c .before .before .before .before .before .before .before .before .before in
+    let s = start (c .before .before .before .before) in
     let a = s .args in
     sym (plane-size (a .w) (a .h) (a .r) (a .p) (offsets (a .element)) (a .n) (a .a) (now (a .work)) (s .pre .0))
 
 count-at-requires : tie.Need-count-at-requires Inv-loop μ-loop
 count-at-requires c κs =
-    let s = c .before .before .before .before .before .before .before .before .before .before in
+    let in-loop = c .before .before in
+    let at-loop = in-loop .before in
+    let s = start (at-loop .before .before) in
     let a = s .args in
-    let l = c .before .before .before .loop in
-    let k = c .before .before .loop-test .taken in
+    let l = at-loop .loop in
+    let k = in-loop .loop-test .taken in
     let t = s .pre .1 in
-    let h : l .i < a .w * a .h = omega (arith, t .places, k) in
-    (l .inv .2, k, omega (arith, h, t .few), omega (arith, s .pre .2), counting-open (a .w) (a .h) (offsets (a .element)) (now (a .labels)) (a .n) (l .i) (l .counters) (l .inv .3) (a .r) (a .p) (a .a) (now (a .work)) (s .pre .0) t h)
+    let h : l .i < a .w * a .h = omega (arith, t .places, k) in (
+      record { banded = l .inv .2; place = k; near = omega (arith, h, t .few); size = omega (arith, s .pre .2) },
+      counting-open (a .w) (a .h) (offsets (a .element)) (now (a .labels)) (a .n) (l .i) (l .counters) (l .inv .3) (a .r) (a .p) (a .a) (now (a .work))
+          (s .pre .0) t h,
+    )
 
 add-next-place : tie.Need-add-next-place Inv-loop μ-loop
-add-next-place c = omega (arith, c .before .before .before .before .before .loop-test .taken, c .before .before .before .before .before .before .before .before .before .before .before .before .before .pre .1 .places, c .before .before .before .before .before .before .before .before .before .before .before .before .before .pre .1 .few)
+add-next-place c =
+    let in-loop = to-in-loop c in
+    let s = start (in-loop .before .before .before) in
+    omega (arith, in-loop .loop-test .taken, s .pre .1 .places, s .pre .1 .few)
 
 next-place-requires-2 : tie.Need-next-place-requires-2 Inv-loop μ-loop
-next-place-requires-2 c κs = omega (arith, c .before .before .before .before .before .loop-test .taken)
+next-place-requires-2 c κs =
+    let in-loop = to-in-loop c in
+    omega (arith, in-loop .loop-test .taken)
 
 loop-less : tie.Need-loop-less Inv-loop μ-loop
-loop-less c = omega (arith, c .before .before .before .before .before .before .loop-test .taken, c .next-place2 .ensures .0)
+loop-less c =
+    let in-loop = to-in-loop (c .before) in
+    omega (arith, in-loop .loop-test .taken, c .next-place2 .ensures .after)
 
 loop-again : tie.Need-loop-again Inv-loop μ-loop
 loop-again c =
-    let s = c .before .before .before .before .before .before .before .before .before .before .before .before .before .before in
+    let at-count-at = c .before .before .before in
+    let in-loop = to-in-loop (c .before) in
+    let at-loop = in-loop .before in
+    let s = start (at-loop .before .before) in
     let a = s .args in
-    let l = c .before .before .before .before .before .before .before .loop in
+    let l = at-loop .loop in
     let t = s .pre .1 in
-    let h : l .i < a .w * a .h = omega (arith, t .places, c .before .before .before .before .before .before .loop-test .taken) in
+    let h : l .i < a .w * a .h = omega (arith, t .places, in-loop .loop-test .taken) in
     let e = c .next-place2 .ensures in
-    let q = counting-next (a .w) (a .h) (offsets (a .element)) (now (a .labels)) (a .n) (l .i) (l .counters) (l .inv .3) (a .r) (a .p) (a .a) (now (a .work)) (s .pre .0) t h _ (c .before .before .before .count-at .ensures) in
-    (l .inv .0, e .1, l .inv .2, counting-gap (a .w) (a .h) (offsets (a .element)) (now (a .labels)) (a .n) (l .i + 1) _ _ (e .0) (subst (λ (v : ℕ). Without v (l .i + 1) (c .next-place2 .result) (now (a .labels))) (l .inv .0) (e .2)) q)
+    let q = counting-next (a .w) (a .h) (offsets (a .element)) (now (a .labels)) (a .n) (l .i) (l .counters) (l .inv .3) (a .r) (a .p) (a .a) (now (a .work))
+    (s .pre .0) t h _ (at-count-at .count-at .ensures) in (
+      l .inv .0,
+      e .within,
+      l .inv .2,
+      counting-gap (a .w) (a .h) (offsets (a .element)) (now (a .labels)) (a .n) (l .i + 1) _ _ (e .after)
+          (subst (λ (v : ℕ). Without v (l .i + 1) (c .next-place2 .result) (now (a .labels))) (l .inv .0) (e .without)) q,
+    )
 
 dilate-step-requires : tie.Need-dilate-step-requires Inv-loop μ-loop
-dilate-step-requires c κs = let s = c .before .before .before .before .before .before .before .before .before in (s .pre .0 .sheet, s .pre .0 .planes, s .pre .0 .clean)
+dilate-step-requires c κs =
+    let s = start (c .before .before .before .before) in
+    (s .pre .0 .sheet, s .pre .0 .planes, s .pre .0 .clean)
 
 same-length : tie.Need-same-length Inv-loop μ-loop
 same-length c = search needs
 
 same-length-2 : tie.Need-same-length-2 Inv-loop μ-loop
 same-length-2 c =
-    let s = c .before .before .before .before .before .before .before .before .before .before .before .before in
+    let at-loop = c .before .before .before .before .before in
+    let s = start (at-loop .before .before) in
     let a = s .args in
-    let l = c .before .before .before .before .before .loop in
-    counting-length (a .w) (a .h) (offsets (a .element)) (now (a .labels)) (a .n) (l .i) (l .counters) (l .inv .3) ∙ sym (counting-length (a .w) (a .h) (offsets (a .element)) (now (a .labels)) (a .n) 0 (now (a .counters)) (s .pre .3))
+    let l = at-loop .loop in
+    counting-length (a .w) (a .h) (offsets (a .element)) (now (a .labels)) (a .n) (l .i) (l .counters) (l .inv .3)
+    ∙ sym (counting-length (a .w) (a .h) (offsets (a .element)) (now (a .labels)) (a .n) 0 (now (a .counters)) (s .pre .3))
 
 returns : tie.Need-returns Inv-loop μ-loop
 returns c =
-    let s = c .before .before .before .before .before .before .before .before .before .before .before .before in
+    let at-dilate-step = c .before .before in
+    let past-loop = at-dilate-step .before .before in
+    let at-loop = past-loop .before in
+    let s = start (at-loop .before .before) in
     let a = s .args in
-    let l = c .before .before .before .before .before .loop in
-    (counting-size (a .w) (a .h) (offsets (a .element)) (now (a .labels)) (a .n) (l .i) (l .counters) (omega (arith, l .inv .1, c .before .before .before .before .loop-test .left, s .pre .1 .places)) (l .inv .3), c .before .before .dilate-step .ensures)
+    let l = at-loop .loop in (
+      counting-size (a .w) (a .h) (offsets (a .element)) (now (a .labels)) (a .n) (l .i) (l .counters)
+          (omega (arith, l .inv .1, past-loop .loop-test .left, s .pre .1 .places)) (l .inv .3),
+      at-dilate-step .dilate-step .ensures,
+    )
 
 pub count-size-spec : {M : Type 1} → statement M
 count-size-spec =

@@ -30,28 +30,41 @@ one-if-point-requires c κs = tt
 
 add-n : tie.Need-add-n Inv-loop μ-loop
 add-n c =
-    let s = c .before .before .before .before .before in
+    let in-loop = c .before .before in
+    let at-loop = in-loop .before in
+    let s = at-loop .before .before in
     let m = now (s .args .labels) in
-    let l = c .before .before .before .loop in
+    let l = at-loop .loop in
     let k = count-le (λ v. not (eqb v 0)) (take (l .i) m) in
     let t = length-take-le (l .i) m (l .inv .0) in
-    omega (arith, c .one-if-point .ensures, digit-le (not (eqb (getD m (l .i) 0) 0)), k, t, l .inv .1, c .before .before .loop-test .taken, s .pre)
+    omega (arith, c .one-if-point .ensures, digit-le (not (eqb (getD m (l .i) 0) 0)), k, t, l .inv .1, in-loop .loop-test .taken, s .pre)
 
 add-i : tie.Need-add-i Inv-loop μ-loop
-add-i c = omega (arith, c .before .before .loop-test .taken)
+add-i c =
+    let in-loop = c .before .before in
+    omega (arith, in-loop .loop-test .taken)
 
 loop-less : tie.Need-loop-less Inv-loop μ-loop
-loop-less c = omega (arith, c .before .before .loop-test .taken)
+loop-less c =
+    let in-loop = c .before .before in
+    omega (arith, in-loop .loop-test .taken)
 
 loop-again : tie.Need-loop-again Inv-loop μ-loop
 loop-again c =
-    let m = now (c .before .before .before .before .before .args .labels) in
-    let l = c .before .before .before .loop in
-    (omega (arith, c .before .before .loop-test .taken), ap₂ (λ (a b : ℕ). a + b) (l .inv .1) (c .one-if-point .ensures) ∙ sym (count-take (λ v. not (eqb v 0)) m (l .i) (c .before .before .loop-test .taken)))
+    let in-loop = c .before .before in
+    let at-loop = in-loop .before in
+    let s = at-loop .before .before in
+    let m = now (s .args .labels) in
+    let l = at-loop .loop in (
+      omega (arith, in-loop .loop-test .taken),
+      ap₂ (λ (a b : ℕ). a + b) (l .inv .1) (c .one-if-point .ensures)
+          ∙ sym (count-take (λ v. not (eqb v 0)) m (l .i) (in-loop .loop-test .taken)),
+    )
 
 returns : tie.Need-returns Inv-loop μ-loop
 returns c =
-    let m = now (c .before .before .before .args .labels) in
+    let s = c .before .before .before in
+    let m = now (s .args .labels) in
     let l = c .before .loop in
     let e : l .i ≡ length m = omega (arith, l .inv .0, c .loop-test .left) in
     l .inv .1 ∙ ap (λ (k : ℕ). countOf (λ v. not (eqb v 0)) (take k m)) e ∙ ap (countOf (λ v. not (eqb v 0))) (take-length m)

@@ -10,37 +10,55 @@ use Rattle.minimal.proofs.WalkLaws.{stepped-gone, stepped-still, twice-
 use Rattle.minimal.proofs.walks.step.Statement.{statement}
 use Rattle.minimal.proofs.walks.step.Tie as tie
 
+abbrev start : tie.After-slice-known3 → tie.Start
+start c = c .before .before .before .before
+
 slice-read-if1 : tie.Need-slice-read-if1
 slice-read-if1 c = search needs
 
 cast-if1 : tie.Need-cast-if1
-cast-if1 c = omega (arith, c .slice-known3 .given (c .before .before .before .before .args .i))
+cast-if1 c =
+    let s = start c in
+    omega (arith, c .slice-known3 .given (s .args .i))
 
 add-if1 : tie.Need-add-if1
 add-if1 c = search needs
 
 returns : tie.Need-returns
-returns c = let a = c .before .before .before .before .before .args in stepped-still (a .w) (a .h) (a .n) (a .a) (a .i) (now (a .plane)) (now (a .labels)) (now (a .counters)) (λ p. c .if1 .taken (p .0))
+returns c =
+    let s = start (c .before) in
+    let a = s .args in
+    stepped-still (a .w) (a .h) (a .n) (a .a) (a .i) (now (a .plane)) (now (a .labels)) (now (a .counters)) (λ p. c .if1 .taken (p .0))
 
 is-twice-requires : tie.Need-is-twice-requires
-is-twice-requires c κs = let s = c .before .before .before .before .before .before in (s .pre .0, s .pre .2, s .pre .4 (c .before .if1 .left))
+is-twice-requires c κs =
+    let s = start (c .before .before) in
+    (s .pre .0 .banded, s .pre .0 .near, s .pre .1 (c .before .if1 .left))
 
 same-length : tie.Need-same-length
 same-length c = search needs
 
 returns-2 : tie.Need-returns-2
 returns-2 c =
-    let a = c .before .before .before .before .before .before .before .before .args in
-    stepped-still (a .w) (a .h) (a .n) (a .a) (a .i) (now (a .plane)) (now (a .labels)) (now (a .counters)) (λ p. c .before .is-twice .ensures .no (not-true _ (c .if2 .taken)) (p .1))
+    let s = start (c .before .before .before .before) in
+    let a = s .args in
+    stepped-still (a .w) (a .h) (a .n) (a .a) (a .i) (now (a .plane)) (now (a .labels)) (now (a .counters))
+    (λ p. c .before .is-twice .ensures .no (not-true _ (c .if2 .taken)) (p .1))
 
 slice-write-labels : tie.Need-slice-write-labels
 slice-write-labels c = search needs
 
 move-cover-requires : tie.Need-move-cover-requires
 move-cover-requires c κs =
-    let s = c .before .before .before .before .before .before .before .before .before in
-    let a = s .args in
-    (s .pre .0, s .pre .2, twice-open (below (a .w * a .h) (inkAt (a .w) (a .h) (now (a .plane)))) (a .i) (a .a) (now (a .counters)) (s .pre .4 (c .before .before .before .before .if1 .left)) (c .before .before .is-twice .ensures .yes (not-false _ (c .before .if2 .left))))
+    let at-is-twice = c .before .before in
+    let else1 = at-is-twice .before .before in
+    let s = start (else1 .before) in
+    let a = s .args in (
+      s .pre .0 .banded,
+      s .pre .0 .near,
+      twice-open (below (a .w * a .h) (inkAt (a .w) (a .h) (now (a .plane)))) (a .i) (a .a) (now (a .counters))
+          (s .pre .1 (else1 .if1 .left)) (at-is-twice .is-twice .ensures .yes (not-false _ (c .before .if2 .left))),
+    )
 
 same-length-2 : tie.Need-same-length-2
 same-length-2 c = search needs
@@ -50,8 +68,14 @@ same-length-3 c = search needs
 
 returns-3 : tie.Need-returns-3
 returns-3 c =
-    let a = c .before .before .before .before .before .before .before .before .before .before .before .before .args in
-    stepped-gone (a .w) (a .h) (a .n) (a .a) (a .i) (now (a .plane)) (now (a .labels)) (now (a .counters)) _ (c .before .before .before .before .before .before .before .if1 .left) (c .before .before .before .before .before .is-twice .ensures .yes (not-false _ (c .before .before .before .before .if2 .left))) (c .before .before .move-cover .ensures)
+    let at-move-cover = c .before .before in
+    let else2 = at-move-cover .before .before in
+    let at-is-twice = else2 .before in
+    let else1 = at-is-twice .before .before in
+    let s = start (else1 .before) in
+    let a = s .args in
+    stepped-gone (a .w) (a .h) (a .n) (a .a) (a .i) (now (a .plane)) (now (a .labels)) (now (a .counters)) _ (else1 .if1 .left)
+    (at-is-twice .is-twice .ensures .yes (not-false _ (else2 .if2 .left))) (at-move-cover .move-cover .ensures)
 
 pub step-spec : {M : Type 1} → statement M
 step-spec =

@@ -1,4 +1,4 @@
--- `minimal::walks::walk_size` meets its contract.
+-- `minimal::walks::walk_size` meets its contract. The invariant: the places before i are walked, and the counters count the covers of the labels left. The measure is what is left of the labels.
 use mathlib.Core.Path.{_∙_, _≡_, ap, refl, sym}
 use Prim.Native.Nat.{_*_, _+_, _-_, _<_, _≤_, ℕ}
 use native.Mathlib.Omega.{arith}
@@ -10,6 +10,7 @@ use Rattle.morphology.specs.Lists.{upTo}
 use Rattle.morphology.specs.Minimal.{dropSize}
 use Rattle.minimal.specs.Bands.{Banded}
 use Rattle.minimal.specs.Covers.{counts}
+use Rattle.minimal.specs.Sizes.{Tame}
 use Rattle.minimal.proofs.CoverCountLaws.{counts-length}
 use Rattle.minimal.proofs.SizeLaws.{plane-banded, plane-rows, plane-size}
 use Rattle.minimal.proofs.WalkLaws.{size-begin, size-gap, size-more, size-tame, step-next, step-within}
@@ -18,13 +19,39 @@ use Rattle.minimal.proofs.walks.walk_size.Tie as tie
 
 abbrev Inv-loop : tie.InvT-loop
 Inv-loop w h r p element a n labels₀ work counters₀ band v i₀ labels counters i =
-    (v ≡ n + 1) × (i ≤ length labels₀) × Banded w h r band (take p work) × (length labels ≡ length labels₀) × (labels ≡ dropSize w h (offsets element) n (upTo i) labels₀) × (counters ≡ counts w h (offsets element) labels)
+    (v ≡ n + 1) × (i ≤ length labels₀) × Banded w h r band (take p work) × (length labels ≡ length labels₀)
+    × (labels ≡ dropSize w h (offsets element) n (upTo i) labels₀) × (counters ≡ counts w h (offsets element) labels)
 
 abbrev μ-loop : tie.MeasureT-loop
 μ-loop w h r p element a n labels₀ work counters₀ band v i₀ labels counters i = length labels₀ - i
 
+abbrev start : tie.At-loop Inv-loop μ-loop → tie.Start Inv-loop μ-loop
+start c = c .before .before .before .before .before .before .before .before
+
+abbrev to-in-loop : tie.After-next-place-arg2 Inv-loop μ-loop → tie.In-loop Inv-loop μ-loop
+to-in-loop c = c .before .before .before .before .before .before .before .before .before
+
+abbrev to-at-loop : tie.After-slice-known6 Inv-loop μ-loop → tie.At-loop Inv-loop μ-loop
+to-at-loop c = c .before .before .before .before .before
+
+abbrev to-step : tie.After-next-place-arg2 Inv-loop μ-loop → tie.After-step Inv-loop μ-loop
+to-step c = c .before .before .before .before .before
+
+-- place i of a turn is one of the map's
+placed : (c : tie.In-loop Inv-loop μ-loop) → c .before .loop .i < start (c .before) .args .w * start (c .before) .args .h
+placed c = omega (arith, c .loop-test .taken, c .before .loop .inv .3, start (c .before) .pre .1 .places)
+
+-- the map is still one whose points stay
+tame : (c : tie.At-loop Inv-loop μ-loop) → Tame (start c .args .w) (start c .args .h) (offsets (start c .args .element)) (c .loop .labels)
+tame c =
+    let s = start c in
+    let a = s .args in
+    size-tame (a .w) (a .h) (offsets (a .element)) (a .n) (now (a .labels)) (c .loop .i) (c .loop .labels) (s .pre .1) (c .loop .inv .4) (c .loop .inv .3)
+
 slice-reshare-prefix-band-of : tie.Need-slice-reshare-prefix-band-of Inv-loop μ-loop
-slice-reshare-prefix-band-of c = let s = c .before .before .before in omega (arith, s .pre .0 .planes)
+slice-reshare-prefix-band-of c =
+    let s = c .before .before .before in
+    omega (arith, s .pre .0 .planes)
 
 slice-aggregate-band-of : tie.Need-slice-aggregate-band-of Inv-loop μ-loop
 slice-aggregate-band-of c =
@@ -39,114 +66,152 @@ band-of-requires c κs =
     plane-rows (a .w) (a .h) (a .r) (a .p) (offsets (a .element)) (a .n) (a .a) (now (a .work)) (s .pre .0)
 
 add-v : tie.Need-add-v Inv-loop μ-loop
-add-v c = omega (arith, c .before .before .before .before .before .pre .2)
+add-v c =
+    let s = c .before .before .before .before .before in
+    omega (arith, s .pre .2)
 
 cast-v : tie.Need-cast-v Inv-loop μ-loop
-cast-v c = omega (arith, c .before .before .before .before .before .pre .2)
+cast-v c =
+    let s = c .before .before .before .before .before in
+    omega (arith, s .pre .2)
 
 next-place-requires : tie.Need-next-place-requires Inv-loop μ-loop
 next-place-requires c κs = omega arith
 
 loop-holds : tie.Need-loop-holds Inv-loop μ-loop
 loop-holds c =
-    let s = c .before .before .before .before .before .before .before in
+    let at-band-of = c .before .before in
+    let s = at-band-of .before .before .before .before .before in
     let a = s .args in
-    let b = c .before .before .band-of .ensures in
+    let b = at-band-of .band-of .ensures in
     let e = c .next-place .ensures in (
       refl,
-      e .1,
+      e .within,
       plane-banded (a .w) (a .h) (a .r) (a .p) (offsets (a .element)) (a .n) (a .a) (now (a .work)) (s .pre .0) _ b,
       refl,
-      size-gap (a .w) (a .h) (offsets (a .element)) (a .n) (now (a .labels)) 0 _ (now (a .labels)) (e .0) (e .2) (size-begin (a .w) (a .h) (offsets (a .element)) (a .n) (now (a .labels))),
+      size-gap (a .w) (a .h) (offsets (a .element)) (a .n) (now (a .labels)) 0 _ (now (a .labels)) (e .after) (e .without)
+          (size-begin (a .w) (a .h) (offsets (a .element)) (a .n) (now (a .labels))),
       s .pre .3,
     )
 
 slice-reshare-prefix-step : tie.Need-slice-reshare-prefix-step Inv-loop μ-loop
-slice-reshare-prefix-step c = let s = c .before .before .before .before .before .before .before .before .before .before in omega (arith, s .pre .0 .planes)
+slice-reshare-prefix-step c =
+    let s = start (c .before .before) in
+    omega (arith, s .pre .0 .planes)
 
 slice-aggregate-step : tie.Need-slice-aggregate-step Inv-loop μ-loop
 slice-aggregate-step c =
-    let s = c .before .before .before .before .before .before .before .before .before .before .before in
+    let s = start (c .before .before .before) in
     let a = s .args in
     sym (plane-size (a .w) (a .h) (a .r) (a .p) (offsets (a .element)) (a .n) (a .a) (now (a .work)) (s .pre .0))
 
 step-requires : tie.Need-step-requires Inv-loop μ-loop
 step-requires c κs =
-    let s = c .before .before .before .before .before .before .before .before .before .before .before .before in
+    let in-loop = c .before .before .before in
+    let at-loop = in-loop .before in
+    let s = start at-loop in
     let a = s .args in
-    let l = c .before .before .before .before .loop in
-    let k = c .before .before .before .loop-test .taken in
+    let l = at-loop .loop in
+    let k = in-loop .loop-test .taken in
     let t = s .pre .1 in
-    let h : l .i < a .w * a .h = omega (arith, k, l .inv .3, t .places) in
-    let u = size-tame (a .w) (a .h) (offsets (a .element)) (a .n) (now (a .labels)) (l .i) (l .labels) t (l .inv .4) (l .inv .3) in
-    (l .inv .2, k, omega (arith, h, t .few), omega (arith, s .pre .2), step-within (a .w) (a .h) (a .r) (a .p) (offsets (a .element)) (a .n) (a .a) (now (a .work)) (s .pre .0) (l .labels) u (l .i) h (l .counters) (l .inv .5))
+    let h = placed in-loop in
+    let u = tame at-loop in (
+      record { banded = l .inv .2; place = k; near = omega (arith, h, t .few); size = omega (arith, s .pre .2) },
+      step-within (a .w) (a .h) (a .r) (a .p) (offsets (a .element)) (a .n) (a .a) (now (a .work)) (s .pre .0) (l .labels) u (l .i) h (l .counters)
+          (l .inv .5),
+    )
 
 add-next-place : tie.Need-add-next-place Inv-loop μ-loop
-add-next-place c = let s = c .before .before .before .before .before .before .before .before .before .before .before .before .before .before .before .before .before .before in omega (arith, c .before .before .before .before .before .before .before .before .before .loop-test .taken, c .before .before .before .before .before .before .before .before .before .before .loop .inv .3, s .pre .1 .places, s .pre .1 .few)
+add-next-place c =
+    let in-loop = to-in-loop c in
+    let at-loop = in-loop .before in
+    let s = start at-loop in
+    omega (arith, placed in-loop, s .pre .1 .few)
 
 next-place-requires-2 : tie.Need-next-place-requires-2 Inv-loop μ-loop
 next-place-requires-2 c κs =
-    let s = c .before .before .before .before .before .before .before .before .before .before .before .before .before .before .before .before .before .before in
+    let at-step = to-step c in
+    let in-loop = to-in-loop c in
+    let at-loop = in-loop .before in
+    let s = start at-loop in
     let a = s .args in
-    let l = c .before .before .before .before .before .before .before .before .before .before .loop in
-    let k = c .before .before .before .before .before .before .before .before .before .loop-test .taken in
+    let l = at-loop .loop in
+    let k = in-loop .loop-test .taken in
     let t = s .pre .1 in
-    let h : l .i < a .w * a .h = omega (arith, k, l .inv .3, t .places) in
-    let u = size-tame (a .w) (a .h) (offsets (a .element)) (a .n) (now (a .labels)) (l .i) (l .labels) t (l .inv .4) (l .inv .3) in
-    let z = step-next (a .w) (a .h) (a .r) (a .p) (offsets (a .element)) (a .n) (a .a) (now (a .work)) (s .pre .0) (l .labels) u (l .i) h (l .counters) (l .inv .5) _ _ (c .before .before .before .before .before .step .ensures) in
+    let h = placed in-loop in
+    let u = tame at-loop in
+    let z = step-next (a .w) (a .h) (a .r) (a .p) (offsets (a .element)) (a .n) (a .a) (now (a .work)) (s .pre .0) (l .labels) u (l .i) h (l .counters)
+    (l .inv .5) _ _ (at-step .step .ensures) in
     omega (arith, k, z .size)
 
 loop-less : tie.Need-loop-less Inv-loop μ-loop
-loop-less c = omega (arith, c .before .before .before .before .before .before .before .before .before .before .loop-test .taken, c .before .before .before .before .before .before .before .before .before .before .before .loop .inv .3, c .next-place2 .ensures .0)
+loop-less c =
+    let in-loop = to-in-loop (c .before) in
+    let at-loop = in-loop .before in
+    omega (arith, in-loop .loop-test .taken, at-loop .loop .inv .3, c .next-place2 .ensures .after)
 
 loop-again : tie.Need-loop-again Inv-loop μ-loop
 loop-again c =
-    let s = c .before .before .before .before .before .before .before .before .before .before .before .before .before .before .before .before .before .before .before in
+    let at-step = to-step (c .before) in
+    let in-loop = to-in-loop (c .before) in
+    let at-loop = in-loop .before in
+    let s = start at-loop in
     let a = s .args in
-    let l = c .before .before .before .before .before .before .before .before .before .before .before .loop in
-    let k = c .before .before .before .before .before .before .before .before .before .before .loop-test .taken in
+    let l = at-loop .loop in
+    let k = in-loop .loop-test .taken in
     let t = s .pre .1 in
-    let h : l .i < a .w * a .h = omega (arith, k, l .inv .3, t .places) in
-    let u = size-tame (a .w) (a .h) (offsets (a .element)) (a .n) (now (a .labels)) (l .i) (l .labels) t (l .inv .4) (l .inv .3) in
-    let z = step-next (a .w) (a .h) (a .r) (a .p) (offsets (a .element)) (a .n) (a .a) (now (a .work)) (s .pre .0) (l .labels) u (l .i) h (l .counters) (l .inv .5) _ _ (c .before .before .before .before .before .before .step .ensures) in
+    let h = placed in-loop in
+    let u = tame at-loop in
+    let z = step-next (a .w) (a .h) (a .r) (a .p) (offsets (a .element)) (a .n) (a .a) (now (a .work)) (s .pre .0) (l .labels) u (l .i) h (l .counters)
+    (l .inv .5) _ _ (at-step .step .ensures) in
     let e = c .next-place2 .ensures in
     let q = size-more (a .w) (a .h) (offsets (a .element)) (a .n) (now (a .labels)) (l .i) (l .labels) _ (l .inv .4) (z .labels) in (
       l .inv .0,
-      omega (arith, e .1, z .size, l .inv .3),
+      omega (arith, e .within, z .size, l .inv .3),
       l .inv .2,
       z .size ∙ l .inv .3,
-      size-gap (a .w) (a .h) (offsets (a .element)) (a .n) (now (a .labels)) (l .i + 1) _ _ (e .0) (λ j lo hi v. e .2 j lo hi (v ∙ sym (l .inv .0))) q,
+      size-gap (a .w) (a .h) (offsets (a .element)) (a .n) (now (a .labels)) (l .i + 1) _ _ (e .after) (λ j lo hi v. e .without j lo hi (v ∙ sym (l .inv .0)))
+          q,
       z .counters,
     )
 
 dilate-step-requires : tie.Need-dilate-step-requires Inv-loop μ-loop
-dilate-step-requires c κs = let s = c .before .before .before .before .before .before .before .before .before .before in (s .pre .0 .sheet, s .pre .0 .planes, s .pre .0 .clean)
+dilate-step-requires c κs =
+    let s = start (c .before .before) in
+    (s .pre .0 .sheet, s .pre .0 .planes, s .pre .0 .clean)
 
 same-length : tie.Need-same-length Inv-loop μ-loop
-same-length c = c .before .before .before .before .before .loop .inv .3
+same-length c =
+    let at-loop = to-at-loop c in
+    at-loop .loop .inv .3
 
 same-length-2 : tie.Need-same-length-2 Inv-loop μ-loop
 same-length-2 c = search needs
 
 same-length-3 : tie.Need-same-length-3 Inv-loop μ-loop
 same-length-3 c =
-    let s = c .before .before .before .before .before .before .before .before .before .before .before .before .before in
+    let at-loop = to-at-loop c in
+    let s = start at-loop in
     let a = s .args in
-    let l = c .before .before .before .before .before .loop in
-    ap length (l .inv .5) ∙ counts-length (a .w) (a .h) (offsets (a .element)) (l .labels) ∙ sym (ap length (s .pre .3) ∙ counts-length (a .w) (a .h) (offsets (a .element)) (now (a .labels)))
+    let l = at-loop .loop in
+    ap length (l .inv .5) ∙ counts-length (a .w) (a .h) (offsets (a .element)) (l .labels)
+    ∙ sym (ap length (s .pre .3) ∙ counts-length (a .w) (a .h) (offsets (a .element)) (now (a .labels)))
 
 returns : tie.Need-returns Inv-loop μ-loop
 returns c =
-    let s = c .before .before .before .before .before .before .before .before .before .before .before .before .before in
+    let at-dilate-step = c .before .before in
+    let past-loop = at-dilate-step .before .before in
+    let at-loop = to-at-loop c in
+    let s = start at-loop in
     let a = s .args in
-    let l = c .before .before .before .before .before .loop in
-    let e : l .i ≡ a .w * a .h = omega (arith, l .inv .1, l .inv .3, c .before .before .before .before .loop-test .left, s .pre .1 .places) in (
+    let l = at-loop .loop in
+    let e : l .i ≡ a .w * a .h = omega (arith, l .inv .1, l .inv .3, past-loop .loop-test .left, s .pre .1 .places) in (
       record {
         size = l .inv .3;
         labels = l .inv .4 ∙ ap (λ (k : ℕ). dropSize (a .w) (a .h) (offsets (a .element)) (a .n) (upTo k) (now (a .labels))) e;
         counters = l .inv .5;
       },
-      c .before .before .dilate-step .ensures,
+      at-dilate-step .dilate-step .ensures,
     )
 
 pub walk-size-spec : {M : Type 1} → statement M

@@ -34,16 +34,21 @@ loop-less c = omega arith
 
 loop-again : tie.Need-loop-again Inv-loop μ-loop
 loop-again c =
-    let a = c .before .before .before .before .before .args in
-    let l = c .before .before .before .before .loop in (
+    let at-coordinate = c .before .before in
+    let at-loop = at-coordinate .before .before in
+    let s = at-loop .before in
+    let a = s .args in
+    let l = at-loop .loop in (
       omega arith,
       ap (λ (n : ℕ). n / 2) (l .inv .1) ∙ shr-shr (a .element) (l .i) 1,
-      far-turn (a .across) (a .forward) (a .element) (l .i) (l .rest) (l .far) _ _ _ (omega arith) (l .inv .1) (l .inv .2) (c .before .before .coordinate .ensures) (c .before .reach .ensures) (c .farther .ensures),
+      far-turn (a .across) (a .forward) (a .element) (l .i) (l .rest) (l .far) _ _ _ (omega arith) (l .inv .1) (l .inv .2) (at-coordinate .coordinate .ensures)
+          (c .before .reach .ensures) (c .farther .ensures),
     )
 
 returns : tie.Need-returns Inv-loop μ-loop
 returns c =
-    let a = c .before .before .args in
+    let s = c .before .before in
+    let a = s .args in
     let l = c .before .loop in
     far-done (a .across) (a .forward) (a .element) (l .i) (l .far) (omega arith) (l .inv .2)
 

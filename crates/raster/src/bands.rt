@@ -1,7 +1,7 @@
-// The band of rows that still holds ink.
+// The band of rows of a plane that holds ink.
 ghost use Prim.Native.Nat.{_*_, _≤_};
 ghost use lib.ListN.{length};
-ghost use Rattle.decomposition.specs.Bands.{FirstRow, EndRow};
+ghost use Rattle.raster.specs.Bands.{FirstRow, EndRow};
 
 // The first row of r bytes from row from on that has ink; to if there is none before it.
 pub fn first_row(s: &[u8], r: usize, from: usize, to: usize) -> usize
@@ -11,7 +11,7 @@ pub fn first_row(s: &[u8], r: usize, from: usize, to: usize) -> usize
     let mut y = from;
     while y < to {
         let at = y * r;
-        if raster::has_ink(&s[at..at + r]) {
+        if crate::has_ink(&s[at..at + r]) {
             return y;
         }
         y = y + 1;
@@ -28,7 +28,7 @@ pub fn end_row(s: &[u8], r: usize, from: usize, to: usize) -> usize
     while from < end {
         let last = end - 1;
         let at = last * r;
-        if raster::has_ink(&s[at..at + r]) {
+        if crate::has_ink(&s[at..at + r]) {
             return end;
         }
         end = last;
