@@ -29,6 +29,7 @@ use Rattle.raster.specs.Rows.{rowBit}
 use Rattle.raster.proofs.ByteLaws.{less-bit}
 use Rattle.raster.proofs.LoopLaws.{Mapped}
 use Rattle.raster.proofs.PartLaws.{part-back}
+use Rattle.raster.proofs.RowLaws.{rowBit-at}
 use Rattle.raster.proofs.PackLaws.{row-pixel}
 use Rattle.label_write.specs.Labelled.{Labelled, RowLabelled, RowsLabelled, lacking, leftAt}
 
@@ -52,14 +53,7 @@ ones-first b m hb hm =
 
 -- what the code makes of the two bytes
 pub left-byte : (s : List ℕ) (a b x : ℕ) → x < 8 → bitOf (bitAnd (getD s a 0) (bitXor (getD s b 0) 255)) x ≡ leftAt s a b x
-unfolding rowBit
-left-byte s a b x h = less-bit (getD s a 0) (getD s b 0) x h ∙ ap₂ (λ (c d : Bool). c && not d) (at-byte a) (at-byte b)
-  where
-    at-byte : (c : ℕ) → bitOf (getD s c 0) x ≡ rowBit s (8 * c + x)
-    at-byte c =
-        let e : c ≡ (8 * c + x) / 8 = omega arith in
-        let m : x ≡ (8 * c + x) % 8 = omega arith in
-        ap₂ (λ (i k : ℕ). bitOf (getD s i 0) k) e m
+left-byte s a b x h = less-bit (getD s a 0) (getD s b 0) x h ∙ ap₂ (λ (c d : Bool). c && not d) (sym (rowBit-at s a x h)) (sym (rowBit-at s b x h))
 
 -- ---- one row
 
