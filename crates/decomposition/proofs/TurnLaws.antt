@@ -31,11 +31,12 @@ use Rattle.morphology.proofs.ElementLaws.{element}
 use Rattle.morphology.proofs.FrameLaws.{OnFrame}
 use Rattle.morphology.proofs.ImageLaws.{Agree, image-agree, image-on, image-pack, length-pack}
 use Rattle.morphology.proofs.SkeletonLaws.{open-on}
-use Rattle.planes.specs.Frames.{Frame}
-use Rattle.planes.proofs.PlaneLaws.{agree-front, frame-bytes}
+use Rattle.planes.proofs.PlaneLaws.{agree-front}
 use Rattle.raster.specs.Rows.{overwrite}
 use Rattle.raster.proofs.RowLaws.{row-in}
 use Rattle.raster.proofs.PartLaws.{PartIs, drop-overwrite, length-overwrite, part-overwrite}
+use Rattle.raster.specs.Frames.{Frame}
+use Rattle.raster.proofs.PackLaws.{frame-bytes}
 use Rattle.iteration.specs.Steps.{First, Ready, Sheet}
 use Rattle.label_write.specs.Labelled.{Labelled, lacking}
 use Rattle.decomposition.specs.Bands.{Banded, EndRow, FirstRow}

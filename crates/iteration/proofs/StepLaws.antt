@@ -24,9 +24,9 @@ use Rattle.morphology.proofs.ImageLaws.{Agree, clean-agree, clean-pack, clip-is
 use Rattle.morphology.proofs.MorphologyLaws.{dilate-sum, dilate-zero}
 use Rattle.morphology.proofs.PlaneLaws.{Empty, area-pack, empty-pack, pack-empty}
 use Rattle.morphology.proofs.TestLaws.{and-r}
-use Rattle.planes.proofs.PlaneLaws.{frame-bytes}
 use Rattle.raster.specs.Rows.{overwrite}
 use Rattle.raster.proofs.PartLaws.{drop-overwrite}
+use Rattle.raster.proofs.PackLaws.{frame-bytes}
 use Rattle.iteration.specs.Steps.{First, HandedOut, Ready, Sheet, Wrote, dilated}
 
 -- ---- sheets

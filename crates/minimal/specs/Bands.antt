@@ -7,7 +7,7 @@ use lib.Dec.{T}
 use lib.ListN.{getD, length}
 use Rattle.morphology.specs.Image.{imageSet, isClean}
 use Rattle.morphology.specs.Labels.{place}
-use Rattle.planes.specs.Frames.{Frame}
+use Rattle.raster.specs.Frames.{Frame}
 use Rattle.minimal.specs.declared.bands.Band.{Band}
 
 -- place q is foreground

@@ -3,3 +3,5 @@ pub mod LoopLaws
 pub mod RowLaws
 pub mod PartLaws
 pub mod CountLaws
+pub mod PlaneLaws
+pub mod PackLaws

@@ -12,10 +12,11 @@ use lib.ListN.{length}
 use Rattle.morphology.specs.Element.{bit, isElement, offsets}
 use Rattle.morphology.specs.Image.{stride}
 use Rattle.morphology.specs.Refusals.{isSide, maxSide, row1, row2}
+use Rattle.morphology.proofs.BitLaws.{odd}
 use Rattle.morphology.proofs.ElementLaws.{offsets-count}
 use Rattle.morphology.proofs.RefusalLaws.{T-of-not}
 use Rattle.morphology.proofs.TestLaws.{and-l, and-r}
-use Rattle.planes.specs.Frames.{Frame}
+use Rattle.raster.specs.Frames.{Frame}
 
 -- ---- row 1
 
@@ -90,10 +91,3 @@ element-count e h o =
     not-leb (ones e) 2
     ∙ sym (ap₂ (λ (a b : Bool). not (a && (b && leb 2 (length (offsets e))))) (lt-ltb e (2 ^ 25) h) (eq-eqb (e / 2 ^ 12 % 2) 1 (odd (e / 4096) o))
     ∙ ap (λ (n : ℕ). not (leb 2 n)) (offsets-count e h))
-  where
-    odd : (q : ℕ) → (q % 2 ≡ 0 → ⊥) → q % 2 ≡ 1
-    odd q n = by (q % 2) refl
-      where
-        by : (d : ℕ) → q % 2 ≡ d → q % 2 ≡ 1
-        by zero z = absurd (n z)
-        by (suc d) z = omega arith

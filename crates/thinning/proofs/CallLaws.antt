@@ -12,8 +12,8 @@ use Rattle.morphology.specs.Image.{isClean, planeBytes}
 use Rattle.morphology.specs.Operations.{hitRows, thinRows}
 use Rattle.morphology.specs.Refusals.{Row, firstRefusal, notPlane, row3, shortWork, unless}
 use Rattle.morphology.proofs.RefusalLaws.{T-of-not, first-out, fits-plane, or-out-false, unless-refused}
-use Rattle.planes.specs.Frames.{Frame}
-use Rattle.planes.proofs.PlaneLaws.{frame-bytes}
+use Rattle.raster.specs.Frames.{Frame}
+use Rattle.raster.proofs.PackLaws.{frame-bytes}
 use Rattle.refusals.proofs.SideLaws.{sides-frame, sides-of}
 use Rattle.iteration.specs.Steps.{Ready}
 use Rattle.iteration.proofs.StepLaws.{sheet-small}

@@ -7,7 +7,7 @@ use lib.ListN.{length}
 use Rattle.morphology.specs.Image.{imageSet}
 use Rattle.morphology.specs.Thinning.{hit}
 use Rattle.morphology.proofs.ImageLaws.{length-pack}
-use Rattle.planes.proofs.PlaneLaws.{frame-bytes}
+use Rattle.raster.proofs.PackLaws.{frame-bytes}
 use Rattle.thinning.proofs.CallLaws.{hit-ready}
 use Rattle.thinning.proofs.HitLaws.{hit-outcome, hit-refused}
 use Rattle.thinning.proofs.hit_or_miss.Statement.{statement}

@@ -19,8 +19,8 @@ abbrev μ-loop : tie.MeasureT-loop
 loop-holds : tie.Need-loop-holds Inv-loop μ-loop
 loop-holds c = let a = c .before .args in (omega arith, tells-yes (twice-start (bitOf (a .b)) (a .at) (a .a) (now (a .counters))))
 
-bit-requires : tie.Need-bit-requires Inv-loop μ-loop
-bit-requires c κs = omega arith
+is-ink-requires : tie.Need-is-ink-requires Inv-loop μ-loop
+is-ink-requires c κs = omega arith
 
 add-pixel-is-twice : tie.Need-add-pixel-is-twice Inv-loop μ-loop
 add-pixel-is-twice c = omega (arith, c .before .before .before .before .pre .0)
@@ -30,7 +30,7 @@ pixel-is-twice-requires c κs =
     let s = c .before .before .before .before in
     let a = s .args in
     let l = c .before .before .loop in
-    within-part (bitOf (a .b)) (λ _. c .bit .result) (a .at) (l .k) 1 (a .a) (pixel-of (bitOf (a .b)) (l .k) (c .bit .result) (c .bit .ensures)) 8 (length (now (a .counters))) (omega (arith, c .before .loop-test .taken)) (s .pre .1)
+    within-part (bitOf (a .b)) (λ _. c .is-ink .result) (a .at) (l .k) 1 (a .a) (pixel-of (bitOf (a .b)) (l .k) (c .is-ink .result) (c .is-ink .ensures)) 8 (length (now (a .counters))) (omega (arith, c .before .loop-test .taken)) (s .pre .1)
 
 add-k : tie.Need-add-k Inv-loop μ-loop
 add-k c = omega (arith, c .before .before .loop-test .taken)
@@ -42,7 +42,7 @@ loop-again : tie.Need-loop-again Inv-loop μ-loop
 loop-again c =
     let a = c .before .before .before .before .before .args in
     let l = c .before .before .before .loop in
-    let b = c .before .bit in
+    let b = c .before .is-ink in
     let m = now (a .counters) in
     let e = pixel-of (bitOf (a .b)) (l .k) (b .result) (b .ensures) in (
       omega (arith, c .before .before .loop-test .taken),
@@ -65,7 +65,7 @@ bits-are-twice-spec =
     Inv-loop
     μ-loop
     loop-holds
-    bit-requires
+    is-ink-requires
     add-pixel-is-twice
     pixel-is-twice-requires
     add-k

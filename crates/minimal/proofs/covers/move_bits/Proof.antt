@@ -17,8 +17,8 @@ abbrev μ-loop : tie.MeasureT-loop
 loop-holds : tie.Need-loop-holds Inv-loop μ-loop
 loop-holds c = let a = c .before .args in (omega arith, moved-start (a .up) (bitOf (a .b)) (a .at) (a .a) (now (a .counters)))
 
-bit-requires : tie.Need-bit-requires Inv-loop μ-loop
-bit-requires c κs = omega arith
+is-ink-requires : tie.Need-is-ink-requires Inv-loop μ-loop
+is-ink-requires c κs = omega arith
 
 add-move-pixel : tie.Need-add-move-pixel Inv-loop μ-loop
 add-move-pixel c = omega (arith, c .before .before .before .before .pre .0)
@@ -28,7 +28,7 @@ move-pixel-requires c κs =
     let s = c .before .before .before .before .before in
     let a = s .args in
     let l = c .before .before .before .loop in
-    let b = c .before .bit in
+    let b = c .before .is-ink in
     open-part (bitOf (a .b)) (λ _. b .result) (a .at) (l .k) 1 (a .a) (pixel-of (bitOf (a .b)) (l .k) (b .result) (b .ensures)) (a .up) 8 (now (a .counters)) (l .counters) (omega (arith, c .before .before .loop-test .taken)) (s .pre .1) (l .inv .1)
 
 add-k : tie.Need-add-k Inv-loop μ-loop
@@ -41,7 +41,7 @@ loop-again : tie.Need-loop-again Inv-loop μ-loop
 loop-again c =
     let a = c .before .before .before .before .before .before .before .before .args in
     let l = c .before .before .before .before .before .before .loop in
-    let b = c .before .before .before .before .bit in (
+    let b = c .before .before .before .before .is-ink in (
       omega (arith, c .before .before .before .before .before .loop-test .taken),
       moved-more (bitOf (a .b)) (λ _. b .result) (a .at) (l .k) 1 (a .a) (pixel-of (bitOf (a .b)) (l .k) (b .result) (b .ensures)) (a .up) (now (a .counters)) (l .counters) _ (l .inv .1) (c .before .before .move-pixel .ensures),
     )
@@ -62,7 +62,7 @@ move-bits-spec =
     Inv-loop
     μ-loop
     loop-holds
-    bit-requires
+    is-ink-requires
     add-move-pixel
     move-pixel-requires
     add-k
