@@ -76,7 +76,7 @@ use Rattle.claims.proofs.RowLaws.{refuses}
 use Rattle.claims.proofs.ShorteningLaws.{shortening}
 use Rattle.claims.proofs.SieveLaws.{sieves-open}
 use Rattle.claims.proofs.StopLaws.{passes-stop}
-use Rattle.claims.proofs.WritingLaws.{erode-part, hit-part, packed-writes, thinned-image}
+use Rattle.claims.proofs.WritingLaws.{erode-part, packed-writes, thinned-image}
 use Rattle.morphology.proofs.Cases.{settled}
 use Rattle.morphology.proofs.CoverLaws.{size-zero}
 use Rattle.morphology.proofs.ElementLaws.{Element, element}
@@ -90,7 +90,7 @@ use Rattle.morphology.proofs.RefusalLaws.{Clear, T-of-not, decompose-passes, fa
 use Rattle.morphology.proofs.SkeletonLaws.{label-above, label-formula, labels-le, open-on, reconstruction-open, skeleton-tame}
 use Rattle.morphology.proofs.SubsetLaws.{eroded-down, subset-in}
 use Rattle.morphology.proofs.TestLaws.{and-l, and-r}
-use Rattle.morphology.proofs.ThinningLaws.{less, thin-enough, thin-idle}
+use Rattle.morphology.proofs.ThinningLaws.{hit-part, less, thin-enough, thin-idle}
 
 -- ---- the settled cases
 

@@ -2,28 +2,24 @@
 use mathlib.Core.Bool.{Bool, _&&_, false, not, true}
 use mathlib.Core.List.{List, [], _∷_}
 use mathlib.Core.Path.{_∙_, _≡_, ap, subst, sym}
-use Prim.Native.Nat.{_^_, suc, zero, zero-le, ℕ}
-use native.Mathlib.Omega.{arith}
-use lib.Dec.{T, eqb, ltb}
+use Prim.Native.Nat.{suc, zero, zero-le, ℕ}
+use lib.Dec.{T, eqb}
 use Rattle.claims.specs.Claims.{Image, Writes}
 use Rattle.morphology.specs.Answers.{Outcome, foreground, outcome, output}
-use Rattle.morphology.specs.Element.{bit, isMask, maskOffsets, offset}
 use Rattle.morphology.specs.Image.{imageSet, pack}
 use Rattle.morphology.specs.Labels.{area}
-use Rattle.morphology.specs.Lists.{everyOf, upTo}
 use Rattle.morphology.specs.Morphology.{erode, times}
-use Rattle.morphology.specs.Point.{Point, _⊞_, origin}
+use Rattle.morphology.specs.Point.{Point}
 use Rattle.morphology.specs.Refusals.{isSide}
 use Rattle.morphology.specs.Thinning.{Thinned, hit, thinPass, thinPasses, thinStep}
-use Rattle.morphology.proofs.ElementLaws.{Element, in-below}
+use Rattle.morphology.proofs.ElementLaws.{Element}
 use Rattle.morphology.proofs.FrameLaws.{OnFrame}
 use Rattle.morphology.proofs.ImageLaws.{bytes-pack, clean-pack, image-on, image-pack, length-pack}
 use Rattle.morphology.proofs.MorphologyLaws.{_⊆_, eroded-zero, ⊆-of-eq}
 use Rattle.morphology.proofs.PlaneLaws.{on-sub}
-use Rattle.morphology.proofs.PointLaws.{unit}
 use Rattle.morphology.proofs.RefusalLaws.{image-passes}
 use Rattle.morphology.proofs.SubsetLaws.{eroded-down}
-use Rattle.morphology.proofs.TestLaws.{all-out, and-l, and-r}
+use Rattle.morphology.proofs.TestLaws.{and-l}
 use Rattle.morphology.proofs.ThinningLaws.{ends, pass, passes-suc, points}
 
 module _ (W H : ℕ) (sides : T (isSide W && isSide H)) where
@@ -75,13 +71,3 @@ module _ (W H : ℕ) (sides : T (isSide W && isSide H)) where
 -- an erosion lies in what is eroded
 pub erode-part : (B : List Point) → Element B → (n : ℕ) (X : Point → Bool) → erode (times B n) X ⊆ X
 erode-part B el n X z t = ⊆-of-eq (eroded-zero B X) z (eroded-down B (el .centred) X 0 n zero-le z t)
-
--- hits lie in the image, since the centre is foreground
-pub hit-part : (m : ℕ × ℕ) → T (isMask m) → (X : Point → Bool) → hit m X ⊆ X
-unfolding isMask hit offset origin
-hit-part m t X z h =
-    let sizes = ltb (m .0) (2 ^ 9) && ltb (m .1) (2 ^ 9) in
-    let apart = everyOf (λ i. not (bit (m .0) i && bit (m .1) i)) (upTo 9) in
-    let centre = and-l (bit (m .0) 4) apart (and-r sizes (bit (m .0) 4 && apart) t) in
-    let fg = and-l (everyOf (λ b. X (z ⊞ b)) (maskOffsets (m .0))) _ h in
-    subst (λ (p : Point). T (X p)) (unit z) (all-out (λ b. X (z ⊞ b)) {a = origin} fg (in-below 1 (m .0) 9 4 (omega arith) centre))

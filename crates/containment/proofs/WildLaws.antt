@@ -26,7 +26,7 @@ use Rattle.morphology.proofs.LabelLaws.{in-places, labelAt-at, of-places}
 use Rattle.morphology.proofs.RefusalLaws.{false-of}
 use Rattle.morphology.proofs.SkeletonLaws.{any-agree}
 use Rattle.morphology.proofs.TestLaws.{T-ext, and-in, and-l, and-r, any-in, any-out}
-use Rattle.refusals.specs.Measures.{measure}
+use Rattle.elements.specs.Measures.{measure}
 use Rattle.raster.proofs.RowLaws.{row-in}
 use Rattle.containment.specs.Wild.{Limit, Limits, Room, over, roomAt, tooLarge}
 
@@ -236,11 +236,7 @@ module _ {W H : ℕ} {B : List Point} {k : ℕ} {m : List ℕ} {left right up do
     -- a row that leaves the frame
     pub wild-stop : rowOver (rowOf W m y) limits l ≡ true → true ≡ isWild W H B k m
     wild-stop q =
-        sym (wild-rows W H B k m ∙ true-of (someOf (rowWild W H B k m) (upTo H)) (any-in (rowWild W H B k m) (in-upTo H y h) (subst T (sym q ∙ row-exact) tt)))
-      where
-        true-of : (b : Bool) → T b → b ≡ true
-        true-of true t = refl
-        true-of false t = absurd t
+        sym (wild-rows W H B k m ∙ T-ext (λ u. tt) (λ u. any-in (rowWild W H B k m) (in-upTo H y h) (subst T (sym q ∙ row-exact) tt)))
 
     -- one that does not
     pub wild-turn : rowOver (rowOf W m y) limits l ≡ false → someOf (rowWild W H B k m) (upTo y) ≡ false → someOf (rowWild W H B k m) (upTo (y + 1)) ≡ false

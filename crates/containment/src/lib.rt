@@ -105,10 +105,10 @@ fn has_wild(w: usize, h: usize, element: u32, cut: u32, labels: &[u8]) -> bool
     requires { ⌜ (w ≤ maxFrame) × (length (now labels) ≡ w * h) × T (isElement element) ⌝ }
     ensures { λ r. ⌜ r ≡ isWild w h (offsets element) cut (now (labels .entry)) ⌝ }
 {
-    let left = refusals::extent::extent(element, true, false);
-    let right = refusals::extent::extent(element, true, true);
-    let up = refusals::extent::extent(element, false, false);
-    let down = refusals::extent::extent(element, false, true);
+    let left = elements::extent(element, true, false);
+    let right = elements::extent(element, true, true);
+    let up = elements::extent(element, false, false);
+    let down = elements::extent(element, false, true);
     let mut limits = [0u8; raster::MAX_FRAME];
     column_limits(w, left, right, cut, &mut limits);
     let mut y: usize = 0;

@@ -4,7 +4,7 @@ use mathlib.Core.List.{List, _++_}
 use mathlib.Core.Path.{_∙_, _≡_, ap, ap₂, subst, sym}
 use Prim.Native.Nat.{_*_, _+_, _-_, _/_, _<_, _≤_, ℕ}
 use native.Mathlib.Decide.{decLt}
-use native.Mathlib.Nat.{add-mul, div-lt-iff-lt-mul, le-div-iff-mul-le, le-refl, mul-comm, mul-le-mul-right, not-suc-le-zero, zero-add}
+use native.Mathlib.Nat.{add-mul, div-lt-iff-lt-mul, le-div-iff-mul-le, le-refl, mul-comm, not-suc-le-zero, zero-add}
 use native.Mathlib.Omega.{arith}
 use lib.Arith.{digits-div, digits-lt}
 use lib.Dec.{T}
@@ -15,17 +15,19 @@ use Rattle.morphology.specs.Image.{imageSet, isClean, pack, planeBytes, stride}
 use Rattle.morphology.specs.Labels.{place}
 use Rattle.morphology.specs.Morphology.{erode, opening}
 use Rattle.morphology.specs.Point.{Point}
-use Rattle.morphology.proofs.BandLaws.{InRows, area-moved, erode-moved, moved, moved-on, open-moved, pack-moved, pack-outside, place-moved, place-outside, rows-in}
+use Rattle.morphology.proofs.BandLaws.{InRows, area-moved, erode-moved, in-rows, moved, moved-on, open-moved, pack-moved, pack-outside, place-moved, place-outside}
 use Rattle.morphology.proofs.FrameLaws.{OnFrame}
 use Rattle.morphology.proofs.ImageLaws.{Agree, clean-agree, clean-pack, image-agree, image-on, image-pack, length-pack}
-use Rattle.planes.specs.Frames.{Frame}
 use Rattle.morphology.proofs.MorphologyLaws.{_⊆_, erode-out}
 use Rattle.morphology.proofs.PointLaws.{unit}
 use Rattle.morphology.proofs.TestLaws.{and-l}
-use Rattle.planes.proofs.PlaneLaws.{frame-bytes, frame-row, origin-in}
+use Rattle.planes.proofs.PlaneLaws.{origin-in}
 use Rattle.morphology.proofs.ElementLaws.{element-bit}
 use Rattle.raster.specs.Rows.{overwrite}
 use Rattle.raster.proofs.PartLaws.{PartIs, part-back, part-overwrite}
+use Rattle.raster.specs.Frames.{Frame}
+use Rattle.raster.proofs.PackLaws.{frame-bytes, frame-row}
+use Rattle.raster.proofs.RowLaws.{rows-in}
 use Rattle.iteration.proofs.StepLaws.{first-start}
 use Rattle.label_write.specs.Labelled.{Labelled}
 use Rattle.raster.specs.Bands.{BlankRow, EndRow, FirstRow}
@@ -57,10 +59,6 @@ banded-start h r a b s f g = banded-found h r 0 h a b s (le-refl h) (λ y l. abs
 
 -- ---- labels of the band, lent and back
 
--- n rows from row a on, of h rows of k elements
-rows-fit : (a n h k : ℕ) → a + n ≤ h → a * k + n * k ≤ h * k
-rows-fit a n h k l = omega (arith, mul-le-mul-right k l, add-mul a n k)
-
 pub labelled-back : (W H a n k v : ℕ) (S : Point → Bool) (old ys : List ℕ) (found : ℕ) → 0 < W → a + n ≤ H → k ≡ n * W → length old ≡ W * H → InRows a n S
     → Labelled W n (moved a S) v (take k (drop (a * W) old)) ys found → Labelled W H S v old (take (a * W) old ++ (ys ++ drop k (drop (a * W) old))) found
 labelled-back W H a n k v S old ys found hW fit ek len rows m = record {
@@ -73,7 +71,7 @@ labelled-back W H a n k v S old ys found hW fit ek len rows m = record {
     new = take (a * W) old ++ (ys ++ drop k (drop (a * W) old))
 
     p : PartIs (a * W) k old ys new
-    p = part-back (a * W) k old ys (omega (arith, rows-fit a n H W fit, mul-comm W H)) (m .size ∙ mul-comm W n ∙ sym ek)
+    p = part-back (a * W) k old ys (omega (arith, rows-in a n H W fit, mul-comm W H)) (m .size ∙ mul-comm W n ∙ sym ek)
 
     same : (i : ℕ) → (a * W ≤ i → i < a * W + n * W → ⊥) → getD old i 0 ≡ cond (S (place W i)) v (getD old i 0)
     same i f = ap (λ (t : Bool). cond t v (getD old i 0)) (sym (place-outside W H a n S hW fit rows i (λ l u. f l (omega (arith, add-mul a n W)))))
@@ -107,7 +105,7 @@ module _ (W H r a b : ℕ) (Y : Point → Bool) (s : List ℕ) (f : Frame W H r)
 
   pub banded-rows : Banded H r a b s → InRows a (b - a) Y
   banded-rows d =
-      rows-in W H a (b - a) Y (some-byte f) (band-fit d) on
+      in-rows W H a (b - a) Y (some-byte f) (band-fit d) on
       (λ y i l g. at-row y i ∙ d .above y l i (omega (arith, f .row)))
       (λ y i l u g. at-row y i ∙ d .below y (omega (arith, d .order)) u i (omega (arith, f .row)))
 
@@ -130,7 +128,7 @@ module _ (W H r a b : ℕ) (Y : Point → Bool) (s : List ℕ) (f : Frame W H r)
 
 -- the band in rows of k elements
 pub band-span : {h r a b : ℕ} {s : List ℕ} → Banded h r a b s → (k : ℕ) → a * k + (b - a) * k ≤ h * k
-band-span {h} {r} {a} {b} d k = rows-fit a (b - a) h k (band-fit d)
+band-span {h} {r} {a} {b} d k = rows-in a (b - a) h k (band-fit d)
 
 -- ---- a turn on the band
 

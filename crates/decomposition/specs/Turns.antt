@@ -11,7 +11,7 @@ use Rattle.morphology.specs.Labels.{pointsOf, raster}
 use Rattle.morphology.specs.Morphology.{erode, opening, times}
 use Rattle.morphology.specs.Point.{Point}
 use Rattle.morphology.specs.Skeleton.{skeletonFunction}
-use Rattle.planes.specs.Frames.{Frame}
+use Rattle.raster.specs.Frames.{Frame}
 use Rattle.label_write.specs.Labelled.{Labelled}
 use Rattle.raster.specs.Rows.{overwrite}
 

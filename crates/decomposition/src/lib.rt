@@ -7,7 +7,7 @@ ghost use Rattle.morphology.specs.Element.{offsets, isElement};
 ghost use Rattle.morphology.specs.Image.{imageSet, isClean};
 ghost use Rattle.morphology.specs.Labels.{maxLabel};
 ghost use Rattle.morphology.specs.Operations.{cleared};
-ghost use Rattle.planes.specs.Frames.{Frame};
+ghost use Rattle.raster.specs.Frames.{Frame};
 ghost use Rattle.iteration.specs.Steps.{Sheet, Ready};
 ghost use Rattle.decomposition.specs.Bands.{Banded};
 ghost use Rattle.decomposition.specs.Turns.{TurnStart, Turned, Stepped, Took, Finished};

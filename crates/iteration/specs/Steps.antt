@@ -10,7 +10,7 @@ use Rattle.morphology.specs.Labels.{area}
 use Rattle.morphology.specs.Morphology.{dilate}
 use Rattle.morphology.specs.Operations.{cleared}
 use Rattle.morphology.specs.Point.{Point}
-use Rattle.planes.specs.Frames.{Frame}
+use Rattle.raster.specs.Frames.{Frame}
 
 -- w and h are sides, r is a row's bytes, p a plane's
 pub record Sheet (w h r p : ℕ) : Type 0 where

@@ -1,5 +1,5 @@
 -- Points joined to a plane, row by row.
-use mathlib.Core.Bool.{Bool, _&&_, _||_, cond, false, not, true}
+use mathlib.Core.Bool.{Bool, _&&_, _||_, cond, false, not, or-comm, true}
 use mathlib.Core.List.{List, [], _++_, _∷_, map, map-append}
 use mathlib.Core.Path.{_∙_, _≡_, ap, ap₂, refl, subst, sym}
 use Prim.Native.Nat.{_%_, _*_, _+_, _-_, _/_, _<_, _^_, _≤_, max, suc, zero, zero-le, ℕ}
@@ -19,15 +19,14 @@ use Rattle.morphology.specs.Lists.{greatest, someOf}
 use Rattle.morphology.specs.Point.{at}
 use Rattle.morphology.proofs.CountLaws.{digit}
 use Rattle.morphology.proofs.ImageLaws.{bit-fromBits, bits-of, fromBits-lt}
-use Rattle.planes.proofs.SetLaws.{pixel-image, row-pixel}
-use Rattle.neighbours.proofs.JoinLaws.{rows-more}
-use Rattle.neighbours.specs.Neighbours.{PlaneIs}
-use Rattle.raster.specs.Rows.{Pixelwise, RowIs, rowBit}
+use Rattle.raster.specs.Rows.{Pixelwise, PlaneIs, RowIs, rowBit}
 use Rattle.raster.proofs.ByteLaws.{below8, join-bit}
 use Rattle.raster.proofs.CountLaws.{any-suc, or-ink}
 use Rattle.raster.proofs.LoopLaws.{Mapped}
 use Rattle.raster.proofs.PartLaws.{pixelwise-part, row-same}
 use Rattle.raster.proofs.RowLaws.{mapped-pixels}
+use Rattle.raster.proofs.PackLaws.{row-image}
+use Rattle.raster.proofs.PlaneLaws.{rows-more}
 use Rattle.label_read.specs.Points.{greatestBelow, isLabel, withPoints}
 
 -- ---- the largest
@@ -283,16 +282,9 @@ pub points-set : (W H r v : ℕ) (labels plane : List ℕ) → r ≡ stride W �
 unfolding labelAt
 points-set W H r v labels plane q hv clean y x hy hx =
     let z : 8 * (0 + y * r) + x ≡ 8 * (y * r) + x = omega arith in
-    let hx′ : x < 8 * stride W = subst (λ (k : ℕ). x < 8 * k) q hx in
-    ap₂ (λ (a b : Bool). a || b) (ap (rowBit plane) z ∙ row-pixel W plane r x y q ∙ sym (pixel-image W H plane clean x y hx′ hy)) (by (ltb x W))
+    ap₂ (λ (a b : Bool). a || b) (ap (rowBit plane) z ∙ row-image W H r plane q clean y x hy hx) (by (ltb x W))
     ∙ or-comm (imageSet W H plane (at (pos x) (pos y))) (eqb (labelAt W H labels (at (pos x) (pos y))) v)
   where
-    or-comm : (a b : Bool) → (a || b) ≡ (b || a)
-    or-comm true true = refl
-    or-comm true false = refl
-    or-comm false true = refl
-    or-comm false false = refl
-
     by : (c : Bool) → (c && eqb (getD labels (y * W + x) 0) v) ≡ eqb (cond (c && ltb y H) (getD labels (y * W + x) 0) 0) v
     by true = ap (λ (c : Bool). eqb (cond c (getD labels (y * W + x) 0) 0) v) (sym (lt-ltb y H hy))
     by false = sym (ne-eqb 0 v (λ e. omega arith))

@@ -6,9 +6,9 @@ ghost use lib.Dec.{eqb, ltb, T};
 ghost use lib.ListN.{length};
 ghost use Rattle.morphology.specs.Image.{fromBits, isClean, pack};
 ghost use Rattle.morphology.specs.Lists.{greatest as greatestOf, someOf};
-ghost use Rattle.planes.specs.Frames.{Frame};
 ghost use Rattle.raster.specs.Limits.{maxFrame};
 ghost use Rattle.raster.specs.Rows.{Pixelwise, overwrite};
+ghost use Rattle.raster.specs.Frames.{Frame};
 ghost use Rattle.label_read.specs.Points.{greatestBelow, isLabel, Tops, withPoints};
 
 fn larger(a: u8, b: u8) -> u8

@@ -1,5 +1,5 @@
 -- Labels written row by row.
-use mathlib.Core.Bool.{Bool, _&&_, cond, false, not, true}
+use mathlib.Core.Bool.{Bool, _&&_, and-not-self, cond, false, not, true}
 use mathlib.Core.List.{List, _++_}
 use mathlib.Core.Path.{_∙_, _≡_, ap, ap₂, refl, subst, sym}
 use Prim.Native.Nat.{_%_, _*_, _+_, _-_, _/_, _<_, _^_, _≤_, suc, zero, ℕ}
@@ -7,13 +7,12 @@ use native.Mathlib.Decide.{decLt}
 use native.Mathlib.Nat.{add-assoc, add-mul, add-sub-of-le, add-zero, le-refl, mul-comm, mul-le-mul-right, not-suc-le-zero, suc-mul, zero-add, zero-mul}
 use native.Mathlib.Numerals.{add-one}
 use native.Mathlib.Omega.{arith}
-use borrow.Author.Tests.{lt-ltb, ne-eqb}
-use lib.Bits.{and-high, bitAnd, bitXor}
+use borrow.Author.Tests.{lt-ltb}
+use lib.Bits.{bitAnd, bitXor}
 use lib.Count.{ones}
 use lib.Dec.{T, eqb, eqb→eq, ltb}
 use lib.IntN.{pos}
 use lib.ListN.{drop, getD, length, length-drop, take}
-use lib.Pow.{pow-pos}
 use lib.Seq.{getD-drop, getD-take, length-take-le}
 use Rattle.morphology.specs.Image.{bitOf, imageSet, pixel, stride}
 use Rattle.morphology.specs.Labels.{area, place}
@@ -25,12 +24,13 @@ use Rattle.morphology.proofs.ImageLaws.{length-row}
 use Rattle.morphology.proofs.LabelLaws.{place-at}
 use Rattle.morphology.proofs.PlaneLaws.{area-last, area-le, area-start, area-turn, areaBelow}
 use Rattle.morphology.proofs.TestLaws.{all-out, upto, upto-out}
-use Rattle.planes.proofs.SetLaws.{row-pixel}
 use Rattle.raster.specs.Limits.{maxFrame}
 use Rattle.raster.specs.Rows.{rowBit}
-use Rattle.raster.proofs.ByteLaws.{below8, less-bit}
+use Rattle.raster.proofs.ByteLaws.{less-bit}
 use Rattle.raster.proofs.LoopLaws.{Mapped}
 use Rattle.raster.proofs.PartLaws.{part-back}
+use Rattle.raster.proofs.RowLaws.{rowBit-at}
+use Rattle.raster.proofs.PackLaws.{row-pixel}
 use Rattle.label_write.specs.Labelled.{Labelled, RowLabelled, RowsLabelled, lacking, leftAt}
 
 -- a pixel after the first q bytes
@@ -43,18 +43,6 @@ drop-bit q s z w e =
 
 -- ---- one pixel
 
--- the test of one bit
-pub bit-test : (b x : ℕ) → x < 8 → not (eqb (bitAnd b (128 / 2 ^ x)) 0) ≡ bitOf b x
-unfolding bitOf
-bit-test b x h =
-    ap (λ (n : ℕ). not (eqb (bitAnd b n) 0)) (below8 (λ (x : ℕ). 128 / 2 ^ x ≡ 2 ^ (1 + (7 - x)) - 2 ^ (7 - x)) refl refl refl refl refl refl refl refl x h)
-    ∙ ap (λ (n : ℕ). not (eqb n 0)) (and-high b 1 (7 - x)) ∙ by (b / 2 ^ (7 - x) % 2) (2 ^ (7 - x)) (omega arith) (pow-pos (7 - x))
-  where
-    by : (d p : ℕ) → d < 2 → 0 < p → not (eqb (d * p) 0) ≡ eqb d 1
-    by zero p h l = ap (λ (n : ℕ). not (eqb n 0)) (zero-mul p)
-    by (suc zero) p h l = ap not (ne-eqb (1 * p) 0 (λ e. absurd (omega arith)))
-    by (suc (suc d)) p h l = absurd (omega arith)
-
 -- the ones among the first m pixels of a byte
 pub ones-first : (b m : ℕ) → b < 256 → m ≤ 8 → ones (b / 2 ^ (8 - m)) ≡ countOf (bitOf b) (upTo m)
 unfolding bitOf countOf ones tabulate
@@ -65,14 +53,7 @@ ones-first b m hb hm =
 
 -- what the code makes of the two bytes
 pub left-byte : (s : List ℕ) (a b x : ℕ) → x < 8 → bitOf (bitAnd (getD s a 0) (bitXor (getD s b 0) 255)) x ≡ leftAt s a b x
-unfolding rowBit
-left-byte s a b x h = less-bit (getD s a 0) (getD s b 0) x h ∙ ap₂ (λ (c d : Bool). c && not d) (at-byte a) (at-byte b)
-  where
-    at-byte : (c : ℕ) → bitOf (getD s c 0) x ≡ rowBit s (8 * c + x)
-    at-byte c =
-        let e : c ≡ (8 * c + x) / 8 = omega arith in
-        let m : x ≡ (8 * c + x) % 8 = omega arith in
-        ap₂ (λ (i k : ℕ). bitOf (getD s i 0) k) e m
+left-byte s a b x h = less-bit (getD s a 0) (getD s b 0) x h ∙ ap₂ (λ (c d : Bool). c && not d) (sym (rowBit-at s a x h)) (sym (rowBit-at s b x h))
 
 -- ---- one row
 
@@ -129,10 +110,6 @@ pub row-same : (s : List ℕ) (a b r at w v : ℕ) (old : List ℕ) → w ≤ 8 
 unfolding rowBit
 row-same s a b r at w v old h f = row-blank at w (leftAt s a b) v old none
   where
-    both : (c : Bool) → (c && not c) ≡ false
-    both true = refl
-    both false = refl
-
     none : (x : ℕ) → x < w → leftAt s a b x ≡ false
     none x l =
         let q = f (x / 8) (omega arith) in
@@ -141,7 +118,7 @@ row-same s a b r at w v old h f = row-blank at w (leftAt s a b) v old none
         let ma : (8 * a + x) % 8 ≡ (8 * b + x) % 8 = omega arith in
         let z : rowBit s (8 * a + x) ≡ rowBit s (8 * b + x) =
         ap₂ (λ (i k : ℕ). bitOf (getD s i 0) k) ea ma ∙ ap (λ (n : ℕ). bitOf n ((8 * b + x) % 8)) q ∙ ap (λ (i : ℕ). bitOf (getD s i 0) ((8 * b + x) % 8)) (sym eb) in
-        ap (λ (c : Bool). c && not (rowBit s (8 * b + x))) z ∙ both (rowBit s (8 * b + x))
+        ap (λ (c : Bool). c && not (rowBit s (8 * b + x))) z ∙ and-not-self (rowBit s (8 * b + x))
 
 -- counted up to x, and from there
 count-on : (f g : ℕ → Bool) (x m : ℕ) → ((j : ℕ) → j < m → g j ≡ f (x + j)) → countOf f (upTo (x + m)) ≡ countOf f (upTo x) + countOf g (upTo m)

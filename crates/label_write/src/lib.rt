@@ -5,18 +5,9 @@ ghost use mathlib.Core.Bool.{cond};
 ghost use Prim.Native.Nat.{_+_, _*_, _/_, _<_, _≤_, ℕ};
 ghost use lib.ListN.{length};
 ghost use Rattle.morphology.specs.Image.{bitOf};
-ghost use Rattle.planes.specs.Frames.{Frame};
+ghost use Rattle.raster.specs.Frames.{Frame};
 ghost use Rattle.raster.specs.Limits.{maxFrame};
 ghost use Rattle.label_write.specs.Labelled.{leftAt, lacking, RowLabelled, RowsLabelled, Labelled};
-
-// Whether pixel x of the eight of a byte is foreground.
-fn is_one(byte: u8, x: usize) -> bool
-    requires { ⌜ x < 8 ⌝ }
-    ensures { λ r. ⌜ r ≡ bitOf byte x ⌝ }
-{
-    let bit = 128u8 >> (x as u32);
-    (byte & bit) != 0
-}
 
 fn chosen(left: bool, v: u8, old: u8) -> u8
     ensures { λ r. ⌜ r ≡ cond left v old ⌝ }
@@ -34,7 +25,7 @@ fn label_few(byte: u8, v: u8, labels: &mut [u8]) -> u32
 {
     let mut x: usize = 0;
     while x < labels.len() {
-        labels[x] = chosen(is_one(byte, x), v, labels[x]);
+        labels[x] = chosen(raster::is_ink(byte, x), v, labels[x]);
         x = x + 1;
     }
     let k = (8 - labels.len()) as u32;

@@ -1,5 +1,5 @@
 -- A plane with one pixel.
-use mathlib.Core.Bool.{Bool, _&&_, cond, false, true}
+use mathlib.Core.Bool.{Bool, _&&_, and-true, cond, false, true}
 use mathlib.Core.List.{List, _++_}
 use mathlib.Core.Path.{_∙_, _≡_, ap, ap₂, refl, subst, sym}
 use Prim.Native.Nat.{_%_, _*_, _+_, _-_, _/_, _<_, _^_, _≤_, suc, ℕ}
@@ -88,15 +88,11 @@ module _ (W H a : ℕ) (hw : 1 ≤ W) (ha : a < W * H) where
           let x : i % stride W ≡ a % W / 8 = ap (λ (n : ℕ). n % stride W) e ∙ digits-mod (a / W) column in
           bits-of mark 8 b (i % stride W * 8) (byte-small (a % W % 8)) (λ j l.
           single-at W a (i % stride W * 8 + j) (i / stride W)
-          ∙ ap₂ (λ (u v : Bool). u && v) (column-is j l x) (eq-eqb (i / stride W) (a / W) y) ∙ true-right (eqb j (a % W % 8))
+          ∙ ap₂ (λ (u v : Bool). u && v) (column-is j l x) (eq-eqb (i / stride W) (a / W) y) ∙ and-true (eqb j (a % W % 8))
           ∙ pixel-bit j (a % W % 8) l (omega arith))
           ∙ sym (ap (λ (n : ℕ). getD (set zeros markAt mark) n 0) e ∙ getD-set-same zeros markAt mark 0
           (subst (λ (n : ℕ). markAt < n) (sym (length-replicate {A = ℕ} (planeBytes W H) 0)) mark-inside))
         where
-          true-right : (t : Bool) → (t && true) ≡ t
-          true-right true = refl
-          true-right false = refl
-
           column-is : (j : ℕ) → j < 8 → i % stride W ≡ a % W / 8 → eqb (i % stride W * 8 + j) (a % W) ≡ eqb j (a % W % 8)
           column-is j l x = T-ext
               (λ t. let q = eqb→eq (i % stride W * 8 + j) (a % W) t in subst T (sym (eq-eqb j (a % W % 8) (omega arith))) tt)

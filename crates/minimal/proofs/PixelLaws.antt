@@ -14,10 +14,10 @@ use Rattle.morphology.specs.Point.{at}
 use Rattle.morphology.proofs.ImageLaws.{image-on}
 use Rattle.morphology.proofs.LabelLaws.{place-at}
 use Rattle.morphology.proofs.RefusalLaws.{false-of}
-use Rattle.planes.proofs.SetLaws.{pixel-image, row-pixel}
 use Rattle.raster.specs.Rows.{rowBit}
 use Rattle.raster.proofs.ByteLaws.{zero-bit}
 use Rattle.raster.proofs.RowLaws.{row-in, rowBit-at}
+use Rattle.raster.proofs.PackLaws.{row-image}
 use Rattle.minimal.specs.Bands.{Banded, Blank, Margins, inkAt}
 use Rattle.minimal.specs.declared.bands.Band.{Band}
 use Rattle.minimal.specs.Moves.{below}
@@ -57,12 +57,8 @@ module _ (W H r : ℕ) (g : Band) (s : List ℕ) (b : Banded W H r g s) where
   unfolding stride
   wide = omega (arith, b .frame .row)
 
-  row-image : (y k : ℕ) → y < H → k < 8 * r → rowBit s (8 * (y * r) + k) ≡ imageSet W H s (at (pos k) (pos y))
-  row-image y k hy hk =
-      row-pixel W s r k y (b .frame .row) ∙ sym (pixel-image W H s (b .clean) k y (subst (λ (n : ℕ). k < 8 * n) (b .frame .row) hk) hy)
-
   pub row-ink : (y k : ℕ) → y < H → k < W → rowBit s (8 * (y * r) + k) ≡ inkAt W H s (y * W + k)
-  row-ink y k hy hk = row-image y k hy (omega (arith, wide)) ∙ ap (imageSet W H s) (sym (place-at W k y hk))
+  row-ink y k hy hk = row-image W H r s (b .frame .row) (b .clean) y k hy (omega (arith, wide)) ∙ ap (imageSet W H s) (sym (place-at W k y hk))
 
   -- its padding is blank
   pub row-padded : (y : ℕ) → y < H → (k : ℕ) → below (8 * r) (λ k. rowBit s (8 * (y * r) + k)) k ≡ below W (λ k. rowBit s (8 * (y * r) + k)) k
@@ -75,7 +71,7 @@ module _ (W H r : ℕ) (g : Band) (s : List ℕ) (b : Banded W H r g s) where
       by (yes h) d = below-in (8 * r) R k (omega (arith, wide)) ∙ sym (below-in W R k h)
       by (no h) (no d) = below-out (8 * r) R k (omega arith) ∙ sym (below-out W R k (omega arith))
       by (no h) (yes d) =
-          below-in (8 * r) R k d ∙ row-image y k hy d
+          below-in (8 * r) R k d ∙ row-image W H r s (b .frame .row) (b .clean) y k hy d
           ∙ false-of (imageSet W H s (at (pos k) (pos y))) (λ t. h (ltb→lt k W (image-on W H s .across (at (pos k) (pos y)) t)))
           ∙ sym (below-out W R k (omega arith))
 
@@ -90,7 +86,7 @@ module _ (W H r : ℕ) (g : Band) (s : List ℕ) (b : Banded W H r g s) where
         hy,
         λ z.
             let e : (8 * (q / W * r) + q % W) / 8 ≡ q / W * r + q % W / 8 = omega arith in
-            subst T (sym (row-image (q / W) (q % W) hy (omega (arith, wide)))
+            subst T (sym (row-image W H r s (b .frame .row) (b .clean) (q / W) (q % W) hy (omega (arith, wide)))
             ∙ zero-bit (getD s ((8 * (q / W * r) + q % W) / 8) 0) ((8 * (q / W * r) + q % W) % 8) (ap (λ (d : ℕ). getD s d 0) e ∙ z)) t,
       )
 

@@ -7,8 +7,8 @@ use lib.Dec.{T}
 use lib.ListN.{getD, length}
 use Rattle.morphology.specs.Image.{imageSet, isClean}
 use Rattle.morphology.specs.Labels.{place}
+use Rattle.raster.specs.Frames.{Frame}
 use Rattle.raster.specs.Limits.{maxStride}
-use Rattle.planes.specs.Frames.{Frame}
 use Rattle.minimal.specs.declared.bands.Band.{Band}
 
 -- place q is foreground

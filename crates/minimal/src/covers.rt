@@ -9,14 +9,6 @@ ghost use Rattle.raster.specs.Rows.{rowBit};
 ghost use Rattle.minimal.specs.Bands.{Banded, CoverRow, inkAt};
 ghost use Rattle.minimal.specs.Moves.{below, hits, Within, counted, Free, Open, Moved, Twice, Tells};
 
-// Whether pixel k of a byte is foreground.
-fn bit(b: u8, k: usize) -> bool
-    requires { ⌜ k < 8 ⌝ }
-    ensures { λ r. ⌜ r ≡ bitOf b k ⌝ }
-{
-    (b >> ((7 - k) as u32)) % 2 == 1
-}
-
 // A counter one up or one down.
 fn next(up: bool, v: u16) -> u16
     requires { ⌜ Free up v ⌝ }
@@ -46,7 +38,7 @@ fn move_bits(up: bool, b: u8, at: usize, a: usize, counters: &mut [u16])
 {
     let mut k: usize = 0;
     while k < 8 {
-        move_pixel(up, bit(b, k), at + k, a, counters);
+        move_pixel(up, raster::is_ink(b, k), at + k, a, counters);
         k = k + 1;
     }
 }
@@ -141,7 +133,7 @@ fn bits_are_twice(b: u8, at: usize, a: usize, counters: &[u16]) -> bool
     let mut all = true;
     let mut k: usize = 0;
     while k < 8 {
-        all = all & pixel_is_twice(bit(b, k), at + k, a, counters);
+        all = all & pixel_is_twice(raster::is_ink(b, k), at + k, a, counters);
         k = k + 1;
     }
     all

@@ -13,7 +13,7 @@ ghost use Rattle.morphology.specs.Image.{imageSet, clip};
 ghost use Rattle.morphology.specs.Labels.{maxLabel, pointsOf};
 ghost use Rattle.morphology.specs.Lists.{greatest};
 ghost use Rattle.morphology.specs.Morphology.{dilate};
-ghost use Rattle.planes.specs.Frames.{Frame};
+ghost use Rattle.raster.specs.Frames.{Frame};
 ghost use Rattle.iteration.specs.Steps.{First};
 ghost use Rattle.minimal.specs.Bands.{CoverAt, inkAt};
 ghost use Rattle.minimal.specs.Covers.{single, counts};

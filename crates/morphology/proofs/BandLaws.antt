@@ -100,10 +100,10 @@ module _ (W H a n : ℕ) (X : Point → Bool) (hR : 0 < stride W) (fit : a + n �
       ∙ bits-none (j % R * 8) 8
 
   -- rows of 0 outside the band: no point there
-  pub rows-in : OnFrame W H X → ((y i : ℕ) → y < a → i < stride W → getD (pack W H X) (y * stride W + i) 0 ≡ 0)
+  pub in-rows : OnFrame W H X → ((y i : ℕ) → y < a → i < stride W → getD (pack W H X) (y * stride W + i) 0 ≡ 0)
       → ((y i : ℕ) → a + n ≤ y → y < H → i < stride W → getD (pack W H X) (y * stride W + i) 0 ≡ 0) → InRows a n X
   unfolding pixel bitOf stride
-  rows-in on above below z t = by (z .x) (z .y) (on .across z t) (on .down z t) t
+  in-rows on above below z t = by (z .x) (z .y) (on .across z t) (on .down z t) t
     where
       blank : (x y : ℕ) → x < W → y < H → getD (pack W H X) (y * stride W + x / 8) 0 ≡ 0 → T (X (at (pos x) (pos y))) → ⊥
       blank x y hx hy e t = none (x % 8) (subst T (sym (pixel-pack W H X x y hx hy) ∙ ap (λ (v : ℕ). bitOf v (x % 8)) e) t)

@@ -31,6 +31,14 @@ low-xor a b =
     (digit2 (λ u v. (bitXor (a / 2) (b / 2) * 2 + differ u v) % 2 ≡ differ u v) (omega arith) (omega arith) (omega arith) (omega arith)
     (a % 2) (b % 2) (mod-lt a (zero-lt-suc 1)) (mod-lt b (zero-lt-suc 1)))
 
+-- a digit that is not 0
+pub odd : (n : ℕ) → (n % 2 ≡ 0 → ⊥) → n % 2 ≡ 1
+odd n f = by (n % 2) refl
+  where
+    by : (d : ℕ) → n % 2 ≡ d → n % 2 ≡ 1
+    by zero z = absurd (f z)
+    by (suc d) z = omega arith
+
 pub bit-and : (a b k : ℕ) → bit (bitAnd a b) k ≡ (bit a k && bit b k)
 bit-and a b k =
     ap (λ (n : ℕ). eqb (n % 2) 1) (and-shr a b k) ∙ ap (λ (n : ℕ). eqb n 1) (low-and (a / 2 ^ k) (b / 2 ^ k))

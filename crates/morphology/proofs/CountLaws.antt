@@ -1,5 +1,5 @@
 -- Counts and largest members, as a loop's running numbers meet them.
-use mathlib.Core.Bool.{Bool, _&&_, _||_, cond, false, true}
+use mathlib.Core.Bool.{Bool, _&&_, _||_, and-assoc, and-true, cond, false, or-assoc, or-false, true}
 use mathlib.Core.List.{List, List·Memᴰ, List·Memᴰ·head, List·Memᴰ·tail, [], _∷_}
 use mathlib.Core.Path.{_∙_, _≡_, ap, ap₂, refl, subst, sym}
 use Prim.Native.Nat.{_+_, _<_, _≤_, max, suc, zero, zero-le, ℕ}
@@ -99,29 +99,13 @@ take-greatest (v ∷ l) (suc i) h = omega (arith, take-greatest l i (le-of-suc-l
 pub any-suc : {A : Type 0} (p : A → Bool) (f : ℕ → A) (i n : ℕ) → someOf p (tabulate f i (suc n)) ≡ (someOf p (tabulate f i n) || p (f (i + n)))
 unfolding tabulate
 any-suc p f i zero = or-false (p (f i)) ∙ ap (λ (k : ℕ). p (f k)) (sym (add-zero i))
-  where
-    or-false : (b : Bool) → (b || false) ≡ b
-    or-false true = refl
-    or-false false = refl
 any-suc p f i (suc n) =
     ap (λ (b : Bool). p (f i) || b) (any-suc p f (suc i) n ∙ ap (λ (k : ℕ). someOf p (tabulate f (suc i) n) || p (f k)) (suc-add i n ∙ sym (add-suc i n)))
-    ∙ or-assoc (p (f i)) (someOf p (tabulate f (suc i) n)) (p (f (i + suc n)))
-  where
-    or-assoc : (a b c : Bool) → (a || (b || c)) ≡ ((a || b) || c)
-    or-assoc true b c = refl
-    or-assoc false b c = refl
+    ∙ sym (or-assoc (p (f i)) (someOf p (tabulate f (suc i) n)) (p (f (i + suc n))))
 
 pub all-suc : {A : Type 0} (p : A → Bool) (f : ℕ → A) (i n : ℕ) → everyOf p (tabulate f i (suc n)) ≡ (everyOf p (tabulate f i n) && p (f (i + n)))
 unfolding tabulate
 all-suc p f i zero = and-true (p (f i)) ∙ ap (λ (k : ℕ). p (f k)) (sym (add-zero i))
-  where
-    and-true : (b : Bool) → (b && true) ≡ b
-    and-true true = refl
-    and-true false = refl
 all-suc p f i (suc n) =
     ap (λ (b : Bool). p (f i) && b) (all-suc p f (suc i) n ∙ ap (λ (k : ℕ). everyOf p (tabulate f (suc i) n) && p (f k)) (suc-add i n ∙ sym (add-suc i n)))
-    ∙ and-assoc (p (f i)) (everyOf p (tabulate f (suc i) n)) (p (f (i + suc n)))
-  where
-    and-assoc : (a b c : Bool) → (a && (b && c)) ≡ ((a && b) && c)
-    and-assoc true b c = refl
-    and-assoc false b c = refl
+    ∙ sym (and-assoc (p (f i)) (everyOf p (tabulate f (suc i) n)) (p (f (i + suc n))))

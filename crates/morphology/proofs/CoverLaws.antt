@@ -7,7 +7,8 @@ use Prim.Native.Nat.{_*_, _+_, _<_, max, suc, zero, zero-le, ℕ}
 use native.Mathlib.Nat.{div-add-mod', suc-ne-zero, zero-add}
 use native.Mathlib.Numerals.{add-one}
 use native.Mathlib.Omega.{arith}
-use lib.Dec.{T, T-not, eqb, eqb-refl, leb, le→leb}
+use borrow.Author.Tests.{le-leb}
+use lib.Dec.{T, T-not, eqb, eqb-refl, leb}
 use lib.IntN.{negsuc, pos, ℤ}
 use lib.ListN.{getD}
 use Rattle.morphology.specs.Image.{inside, onFrame}
@@ -99,11 +100,7 @@ module _ (W H : ℕ) (B : List Point) (el : Element B) where
       inside-all : (j n : ℕ) → j < W * H → getD m j 0 ≡ suc n → (b : Bool) → everyOf (λ b. onFrame W H (place W j ⊞ b)) (times B n) ≡ b → T b
       inside-all j n h q true p = tt
       inside-all j n h q false p =
-          grown j n h q (ap₂ (λ (x y : Bool). x && not y) (T-true (leb 0 n) (le→leb 0 n zero-le)) p)
-        where
-          T-true : (b : Bool) → T b → b ≡ true
-          T-true true t = refl
-          T-true false t = absurd t
+          grown j n h q (ap₂ (λ (x y : Bool). x && not y) (le-leb 0 n zero-le) p)
 
       frame : (p : Point) → T (reconstruction W H B 0 m p) → T (onFrame W H p)
       frame p t =

@@ -8,7 +8,7 @@ use native.Mathlib.Nat.{add-suc, add-zero, div-add-mod', div-lt-iff-lt-mul, le-o
 use native.Mathlib.Omega.{arith}
 use borrow.Author.Tests.{le-ltb, lt-ltb}
 use lib.Arith.{digits-div, digits-lt, digits-mod}
-use lib.Dec.{T, eqb, ltb, ltb→lt, lt→ltb, not-T}
+use lib.Dec.{T, T-not, eqb, ltb, ltb→lt, lt→ltb, not-T}
 use lib.IntN.{negsuc, pos, ℤ}
 use lib.ListN.{getD, length}
 use lib.Pow.{areBytes, field, high, pow-add, pow-pos, shr-lt, split}
@@ -169,57 +169,55 @@ bits-of v (suc n) b i h f =
     ∙ ap (λ (u : ℕ). eqb u 1) (below-top d n (v % 2 ^ n) (n - suc j) (omega arith))) in
     ap₂ (λ (u r : ℕ). u * 2 ^ n + r) top rest ∙ split v n
 
-not-false : (b : Bool) → T (not b) → false ≡ b
-not-false true t = absurd t
-not-false false t = refl
-
--- a pixel of the image is the bit of its byte
-bit-image : (W H : ℕ) (s : List ℕ) → T (isClean W H s) → (i j R : ℕ) → R ≡ stride W → 0 < R → i < H * R → j < 8
-    → imageSet W H s (at (pos (i % R * 8 + j)) (pos (i / R))) ≡ eqb (getD s i 0 / 2 ^ (8 - suc j) % 2) 1
-unfolding imageSet pixel bitOf isClean
-bit-image W H s clean i j R q hR h hj = go (decLt (i % R * 8 + j) W)
+-- a pixel of a clean image, padding included
+pub pixel-image : (W H : ℕ) (s : List ℕ) → T (isClean W H s) → (x y : ℕ) → x < 8 * stride W → y < H
+    → imageSet W H s (at (pos x) (pos y)) ≡ pixel W s x y
+unfolding imageSet isClean
+pixel-image W H s clean x y hx hy = go (decLt x W)
   where
-    x : ℕ
-    x = i % R * 8 + j
-
-    hy : i / R < H
-    hy = div-lt-iff-lt-mul hR .1 h
-
-    px : pixel W s x (i / R) ≡ eqb (getD s i 0 / 2 ^ (8 - suc j) % 2) 1
-    px =
-        let e : 7 - j ≡ 8 - suc j = omega arith in
-        ap₂ (λ (k m : ℕ). eqb (getD s (i / R * stride W + k) 0 / 2 ^ (7 - m) % 2) 1) (digits-div (i % R) hj) (digits-mod (i % R) hj)
-        ∙ ap (λ (k : ℕ). eqb (getD s k 0 / 2 ^ (7 - j) % 2) 1) (ap (λ (r : ℕ). i / R * r + i % R) (sym q) ∙ div-add-mod' i R)
-        ∙ ap (λ (k : ℕ). eqb (getD s i 0 / 2 ^ k % 2) 1) e
-
-    go : Dec (x < W) → (ltb x W && (ltb (i / R) H && pixel W s x (i / R))) ≡ eqb (getD s i 0 / 2 ^ (8 - suc j) % 2) 1
-    go (yes l) = ap₂ (λ (a b : Bool). a && (b && pixel W s x (i / R))) (lt-ltb x W l) (lt-ltb (i / R) H hy) ∙ px
+    go : Dec (x < W) → (ltb x W && (ltb y H && pixel W s x y)) ≡ pixel W s x y
+    go (yes l) = ap₂ (λ (a b : Bool). a && (b && pixel W s x y)) (lt-ltb x W l) (lt-ltb y H hy)
     go (no l) =
         let w : W ≤ x = omega arith in
         let k = x - W in
-        let xr : x < R * 8 = digits-lt (mod-lt i hR) hj in
-        let hk : k < stride W * 8 - W = subst (λ (r : ℕ). k < r * 8 - W) q (omega arith) in
+        let hk : k < stride W * 8 - W = omega arith in
         let e : W + k ≡ x = omega arith in
-        let my = subst (λ (y : ℕ). List·Memᴰ y (upTo H)) (zero-add (i / R)) (mem-row (λ y. y) 0 H (i / R) hy) in
+        let my = subst (λ (y : ℕ). List·Memᴰ y (upTo H)) (zero-add y) (mem-row (λ y. y) 0 H y hy) in
         let mx = subst (λ (c : ℕ). List·Memᴰ c (tabulate (λ c. c) W (stride W * 8 - W))) e (mem-row (λ c. c) W (stride W * 8 - W) k hk) in
-        let t = all-out (λ c. not (pixel W s c (i / R))) (all-out (λ y. everyOf (λ c. not (pixel W s c y)) (tabulate (λ c. c) W (stride W * 8 - W))) clean my) mx in
-        ap (λ (a : Bool). a && (ltb (i / R) H && pixel W s x (i / R))) (le-ltb x W w) ∙ not-false (pixel W s x (i / R)) t ∙ px
+        let t = all-out (λ c. not (pixel W s c y)) (all-out (λ y. everyOf (λ c. not (pixel W s c y)) (tabulate (λ c. c) W (stride W * 8 - W))) clean my) mx in
+        ap (λ (a : Bool). a && (ltb y H && pixel W s x y)) (le-ltb x W w) ∙ T-ext (λ u. absurd u) (λ u. T-not (pixel W s x y) t u)
+
+-- bytes whose pixels, padding included, are those of a set
+pub pack-pixels : (W H : ℕ) (X : Point → Bool) (s : List ℕ) → length s ≡ planeBytes W H → ((i : ℕ) → getD s i 0 < 256)
+    → ((y x : ℕ) → y < H → x < 8 * stride W → pixel W s x y ≡ X (at (pos x) (pos y))) → pack W H X ≡ s
+unfolding pack pixel bitOf
+pack-pixels W H X s len bytes f =
+    let g : ℕ → ℕ = λ i. fromBits (λ c. X (at (pos c) (pos (i / stride W)))) (i % stride W * 8) 8 in
+    ext-getD 0 (tabulate g 0 (H * stride W)) s (length-row g 0 (H * stride W) ∙ sym len)
+    (λ i l.
+    let h : i < H * stride W = subst (λ (n : ℕ). i < n) (length-row g 0 (H * stride W)) l in
+    getD-row g 0 (H * stride W) i 0 h ∙ ap g (zero-add i) ∙ byte i (stride W) refl h)
+  where
+    digit : (i j R : ℕ) → R ≡ stride W → 0 < R → i < H * R → j < 8
+        → X (at (pos (i % R * 8 + j)) (pos (i / R))) ≡ eqb (getD s i 0 / 2 ^ (8 - suc j) % 2) 1
+    digit i j R q hR h hj =
+        let x = i % R * 8 + j in
+        let hx : x < R * 8 = digits-lt (mod-lt i hR) hj in
+        let hx′ : x < 8 * stride W = subst (λ (r : ℕ). x < 8 * r) q (omega arith) in
+        let e : 7 - j ≡ 8 - suc j = omega arith in
+        sym (f (i / R) x (div-lt-iff-lt-mul hR .1 h) hx′)
+        ∙ ap₂ (λ (k m : ℕ). eqb (getD s (i / R * stride W + k) 0 / 2 ^ (7 - m) % 2) 1) (digits-div (i % R) hj) (digits-mod (i % R) hj)
+        ∙ ap (λ (k : ℕ). eqb (getD s k 0 / 2 ^ (7 - j) % 2) 1) (ap (λ (r : ℕ). i / R * r + i % R) (sym q) ∙ div-add-mod' i R)
+        ∙ ap (λ (k : ℕ). eqb (getD s i 0 / 2 ^ k % 2) 1) e
+
+    byte : (i R : ℕ) → R ≡ stride W → i < H * R → fromBits (λ c. X (at (pos c) (pos (i / R)))) (i % R * 8) 8 ≡ getD s i 0
+    byte i zero q h = absurd (not-suc-le-zero (subst (λ (n : ℕ). i < n) (mul-zero H) h))
+    byte i (suc R) q h =
+        bits-of (getD s i 0) 8 (λ c. X (at (pos c) (pos (i / suc R)))) (i % suc R * 8) (bytes i) (λ j l. digit i j (suc R) q (zero-lt-suc R) h l)
 
 -- the bytes that were read: a clean image of the right length
 pub pack-image : (W H : ℕ) (s : List ℕ) → length s ≡ planeBytes W H → ((i : ℕ) → getD s i 0 < 256) → T (isClean W H s) → pack W H (imageSet W H s) ≡ s
-unfolding pack
-pack-image W H s len bytes clean =
-    let f : ℕ → ℕ = λ i. fromBits (λ c. imageSet W H s (at (pos c) (pos (i / stride W)))) (i % stride W * 8) 8 in
-    ext-getD 0 (tabulate f 0 (H * stride W)) s (length-row f 0 (H * stride W) ∙ sym len)
-    (λ i l.
-    let h : i < H * stride W = subst (λ (n : ℕ). i < n) (length-row f 0 (H * stride W)) l in
-    getD-row f 0 (H * stride W) i 0 h ∙ ap f (zero-add i) ∙ byte i (stride W) refl h)
-  where
-    byte : (i R : ℕ) → R ≡ stride W → i < H * R → fromBits (λ c. imageSet W H s (at (pos c) (pos (i / R)))) (i % R * 8) 8 ≡ getD s i 0
-    byte i zero q h = absurd (not-suc-le-zero (subst (λ (n : ℕ). i < n) (mul-zero H) h))
-    byte i (suc R) q h =
-        bits-of (getD s i 0) 8 (λ c. imageSet W H s (at (pos c) (pos (i / suc R)))) (i % suc R * 8) (bytes i)
-        (λ j l. bit-image W H s clean i j (suc R) q (zero-lt-suc R) h l)
+pack-image W H s len bytes clean = pack-pixels W H (imageSet W H s) s len bytes (λ y x hy hx. sym (pixel-image W H s clean x y hx hy))
 
 -- what is packed is bytes, and clean
 pub bytes-row : (f : ℕ → ℕ) (i n : ℕ) → ((k : ℕ) → f k < 256) → T (areBytes (tabulate f i n))
@@ -249,8 +247,6 @@ clean-pack W H X on =
   where
     s : List ℕ
     s = pack W H X
-
--- ---- work
 
 -- ---- only the first P bytes matter
 

@@ -1,22 +1,40 @@
--- Thinning: a pass only removes, and thinning ends.
+-- Hits lie in the image; a pass of thinning only removes, and thinning ends.
 use mathlib.Core.Bool.{Bool, _&&_, cond, false, not, true}
 use mathlib.Core.List.{List, List·Memᴰ, List·Memᴰ·head, List·Memᴰ·tail, [], _∷_}
 use mathlib.Core.Path.{_∙_, _≡_, ap, refl, subst, sym}
-use Prim.Native.Nat.{_+_, _<_, _≤_, suc, zero, ℕ}
+use Prim.Native.Nat.{_+_, _<_, _^_, _≤_, suc, zero, ℕ}
 use native.Mathlib.Nat.{le-refl}
 use native.Mathlib.Omega.{arith}
 use borrow.Author.Tests.{eqb-false, eqb-true}
-use lib.Dec.{T, eqb}
+use lib.Dec.{T, eqb, lit<, ltb}
+use Rattle.morphology.specs.Element.{bit, isMask, maskOffsets, offset}
 use Rattle.morphology.specs.Image.{imageSet, pack}
 use Rattle.morphology.specs.Labels.{area, places}
-use Rattle.morphology.specs.Lists.{countOf}
-use Rattle.morphology.specs.Point.{Point}
+use Rattle.morphology.specs.Lists.{countOf, everyOf, upTo}
+use Rattle.morphology.specs.Point.{Point, _⊞_, origin}
 use Rattle.morphology.specs.Thinning.{Thinned, golayL, hit, thinPass, thinPasses, thinStep}
+use Rattle.morphology.proofs.ElementLaws.{in-below}
 use Rattle.morphology.proofs.FrameLaws.{OnFrame}
 use Rattle.morphology.proofs.ImageLaws.{image-on, image-pack}
 use Rattle.morphology.proofs.LabelLaws.{on-places}
 use Rattle.morphology.proofs.MorphologyLaws.{_⊆_, set-ext, ⊆-of-eq}
-use Rattle.morphology.proofs.TestLaws.{and-l}
+use Rattle.morphology.proofs.PointLaws.{unit}
+use Rattle.morphology.proofs.TestLaws.{all-out, and-l, and-r}
+
+-- ---- hits
+
+-- the centre of an accepted mask is foreground, so that what is hit was there
+mask-centre : (m : ℕ × ℕ) → T (isMask m) → List·Memᴰ origin (maskOffsets (m .0))
+unfolding isMask offset origin
+mask-centre m t =
+    let overlap = everyOf (λ i. not (bit (m .0) i && bit (m .1) i)) (upTo 9) in
+    in-below 1 (m .0) 9 4 (lit< tt) (and-l (bit (m .0) 4) overlap (and-r (ltb (m .0) (2 ^ 9) && ltb (m .1) (2 ^ 9)) (bit (m .0) 4 && overlap) t))
+
+pub hit-part : (m : ℕ × ℕ) → T (isMask m) → (X : Point → Bool) → hit m X ⊆ X
+unfolding hit
+hit-part m t X z u =
+    subst (λ (y : Point). T (X y)) (unit z)
+    (all-out (λ b. X (z ⊞ b)) (and-l (everyOf (λ b. X (z ⊞ b)) (maskOffsets (m .0))) (everyOf (λ b. not (X (z ⊞ b))) (maskOffsets (m .1))) u) (mask-centre m t))
 
 -- ---- counts of a part
 

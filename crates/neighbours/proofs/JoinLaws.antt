@@ -1,16 +1,12 @@
--- Planes to which pixels are joined, and planes changed row by row.
+-- Planes to which pixels are joined.
 use mathlib.Core.Bool.{Bool, cond, false, not, true}
 use mathlib.Core.List.{List}
 use mathlib.Core.Path.{_∙_, _≡_, ap, refl, sym}
-use Prim.Native.Nat.{_*_, _+_, _-_, _/_, _<_, _≤_, ℕ}
-use native.Mathlib.Decide.{decLt}
-use native.Mathlib.Nat.{le-refl, not-suc-le-zero, suc-mul}
-use native.Mathlib.Numerals.{add-one}
+use Prim.Native.Nat.{_*_, _+_, _<_, _≤_, ℕ}
 use native.Mathlib.Omega.{arith}
 use lib.ListN.{length}
-use Rattle.raster.specs.Rows.{join, rowBit, RowIs}
-use Rattle.raster.proofs.RowLaws.{row-in, rowBit-same}
-use Rattle.neighbours.specs.Neighbours.{PlaneIs, PlaneJoined, source}
+use Rattle.raster.specs.Rows.{join, rowBit}
+use Rattle.neighbours.specs.Neighbours.{PlaneJoined, source}
 use Rattle.neighbours.proofs.NeighbourLaws.{join-assoc, join-unit}
 
 -- ---- planes
@@ -23,10 +19,6 @@ plane-kept t p r h w f e = record {
   after = λ j l. refl;
   pixels = λ y x ly lx. sym (ap (join t (rowBit w (8 * (p + y * r) + x))) (e y x ly) ∙ join-unit t (rowBit w (8 * (p + y * r) + x)));
 }
-
-pub plane-same : {p r m : ℕ} {old new : List ℕ} {g g′ : ℕ → ℕ → Bool} → PlaneIs p r m old new g → ((y x : ℕ) → y < m → g y x ≡ g′ y x)
-    → PlaneIs p r m old new g′
-plane-same a e = record { size = a .size; before = a .before; after = a .after; pixels = λ y x l k. a .pixels y x l k ∙ e y x l }
 
 -- f joined, then g
 pub plane-more : (t : Bool) (p r h : ℕ) (u v w : List ℕ) (f g : ℕ → ℕ → Bool) → PlaneJoined t p r h u v f → PlaneJoined t p r h v w g
@@ -43,31 +35,3 @@ plane-more t p r h u v w f g a b = record {
 pub source-fits : (own : Bool) (n p : ℕ) (image w : List ℕ) → n ≤ cond own p (length image) → p + n ≤ length w → n ≤ length (source own image w)
 source-fits true n p image w h k = omega arith
 source-fits false n p image w h k = h
-
--- ---- a plane changed row by row: g y x of pixel x of row y
-
-pub rows-none : (p r : ℕ) (v : List ℕ) (g : ℕ → ℕ → Bool → Bool) → PlaneIs p r 0 v v (λ y x. g y x (rowBit v (8 * (p + y * r) + x)))
-rows-none p r v g = record { size = refl; before = λ j z. refl; after = λ j z. refl; pixels = λ y x a b. absurd (not-suc-le-zero a) }
-
--- one row more
-pub rows-more : (p r m : ℕ) (u v v′ : List ℕ) (g : ℕ → ℕ → Bool → Bool) → PlaneIs p r m u v (λ y x. g y x (rowBit u (8 * (p + y * r) + x)))
-    → RowIs (p + m * r) r v v′ (λ x. g m x (rowBit v (8 * (p + m * r) + x)))
-    → PlaneIs p r (m + 1) u v′ (λ y x. g y x (rowBit u (8 * (p + y * r) + x)))
-rows-more p r m u v v′ g a b =
-    let n : (m + 1) * r ≡ m * r + r = ap (λ (k : ℕ). k * r) (add-one m) ∙ suc-mul m r in
-    record {
-      size = b .size ∙ a .size;
-      before = λ j z. b .before j (omega arith) ∙ a .before j z;
-      after = λ j z. b .after j (omega arith) ∙ a .after j (omega arith);
-      pixels = λ y x c d. by y x (decLt y m) c d;
-    }
-  where
-    by : (y x : ℕ) → Dec (y < m) → y < m + 1 → x < 8 * r → rowBit v′ (8 * (p + y * r) + x) ≡ g y x (rowBit u (8 * (p + y * r) + x))
-    by y x (yes c) d e =
-        let i = row-in y m r (m * r) c (le-refl (m * r)) in
-        rowBit-same v′ v (8 * (p + y * r) + x) (b .before ((8 * (p + y * r) + x) / 8) (omega (arith, i))) ∙ a .pixels y x c e
-    by y x (no c) d e =
-        let q : y ≡ m = omega arith in
-        ap (λ (n : ℕ). rowBit v′ (8 * (p + n * r) + x)) q ∙ b .pixels x e
-        ∙ ap (g m x) (rowBit-same v u (8 * (p + m * r) + x) (a .after ((8 * (p + m * r) + x) / 8) (omega arith)))
-        ∙ ap (λ (n : ℕ). g n x (rowBit u (8 * (p + n * r) + x))) (sym q)

@@ -1,5 +1,5 @@
 -- What an element asks, pixel by pixel.
-use mathlib.Core.Bool.{Bool, _&&_, cond, false, not, true}
+use mathlib.Core.Bool.{Bool, _&&_, and-assoc, and-comm, and-true, cond, false, not, or-assoc, or-comm, or-false, true}
 use mathlib.Core.List.{List}
 use mathlib.Core.Path.{_∙_, _≡_, ap, ap₂, refl, sym}
 use Prim.Native.Nat.{_%_, _*_, _+_, _-_, _/_, _<_, _≤_, suc, zero, ℕ}
@@ -18,30 +18,20 @@ use Rattle.neighbours.specs.Neighbours.{joined, nearBit, turned}
 -- ---- joining
 
 pub join-assoc : (t a b c : Bool) → join t (join t a b) c ≡ join t a (join t b c)
-join-assoc true true b c = refl
-join-assoc true false b c = refl
-join-assoc false true b c = refl
-join-assoc false false b c = refl
+join-assoc true a b c = or-assoc a b c
+join-assoc false a b c = and-assoc a b c
 
 pub join-unit : (t a : Bool) → join t a (not t) ≡ a
-join-unit true true = refl
-join-unit true false = refl
-join-unit false true = refl
-join-unit false false = refl
+join-unit true a = or-false a
+join-unit false a = and-true a
 
 pub unit-join : (t a : Bool) → join t (not t) a ≡ a
 unit-join true a = refl
 unit-join false a = refl
 
 pub join-comm : (t a b : Bool) → join t a b ≡ join t b a
-join-comm true true true = refl
-join-comm true true false = refl
-join-comm true false true = refl
-join-comm true false false = refl
-join-comm false true true = refl
-join-comm false true false = refl
-join-comm false false true = refl
-join-comm false false false = refl
+join-comm true a b = or-comm a b
+join-comm false a b = and-comm a b
 
 pub joined-more : (t : Bool) (k : ℕ) (f : ℕ → Bool) → joined t (k + 1) f ≡ join t (joined t k f) (f k)
 unfolding joined
@@ -95,6 +85,15 @@ row-if t old new f digit e m = record {
 }
 
 -- ---- rows of the plane
+
+-- each k below 5
+pub below5 : (P : ℕ → Type 0) → P 0 → P 1 → P 2 → P 3 → P 4 → (k : ℕ) → k < 5 → P k
+below5 P a b c d e zero l = a
+below5 P a b c d e (suc zero) l = b
+below5 P a b c d e (suc (suc zero)) l = c
+below5 P a b c d e (suc (suc (suc zero))) l = d
+below5 P a b c d e (suc (suc (suc (suc zero)))) l = e
+below5 P a b c d e (suc (suc (suc (suc (suc k))))) l = absurd (omega arith)
 
 pub turned-lt : (t : Bool) (k : ℕ) → k < 5 → turned t k < 5
 turned-lt true k h = omega arith

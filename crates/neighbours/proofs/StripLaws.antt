@@ -1,5 +1,5 @@
 -- Rows of a plane loaded into a buffer, moved there, and joined to rows of another plane.
-use mathlib.Core.Bool.{Bool, _&&_, cond, false, not, true}
+use mathlib.Core.Bool.{Bool, _&&_, and-comm, and-true, cond, false, not, true}
 use mathlib.Core.List.{List, _++_}
 use mathlib.Core.Path.{_∙_, _≡_, ap, ap₂, refl, subst, sym}
 use Prim.Native.Nat.{_%_, _*_, _+_, _-_, _/_, _<_, _^_, _≤_, min, suc, zero, ℕ}
@@ -13,13 +13,13 @@ use lib.Pow.{shr-shr}
 use lib.Seq.{length-take-le}
 use Rattle.morphology.specs.Element.{bit}
 use Rattle.raster.specs.Limits.{maxStride}
-use Rattle.raster.specs.Rows.{Pixelwise, RowIs, RowJoined, join, readBit, rowBit}
-use Rattle.raster.proofs.ByteLaws.{and-true}
+use Rattle.raster.specs.Rows.{Pixelwise, PlaneIs, RowIs, RowJoined, join, readBit, rowBit}
 use Rattle.raster.proofs.PartLaws.{PartIs, cut-bit, part-back, part-bit, pixelwise-part}
-use Rattle.raster.proofs.RowLaws.{row-in, rowBit-same}
-use Rattle.neighbours.specs.Neighbours.{Moved, NearRows, PlaneIs, PlaneJoined, columnOf, fiveOf, isWithin, joined, nearBit, neighbours, rowsBit, source, sourceBit, stripBit, turned}
+use Rattle.raster.proofs.RowLaws.{row-in, rowBit-same, rows-in}
+use Rattle.raster.proofs.PlaneLaws.{plane-same, rows-more}
+use Rattle.neighbours.specs.Neighbours.{Moved, NearRows, PlaneJoined, columnOf, fiveOf, isWithin, joined, nearBit, neighbours, rowsBit, source, sourceBit, stripBit, turned}
 use Rattle.neighbours.proofs.NeighbourLaws.{join-assoc, joined-more, joined-same, joined-swap, joined-unit, near-same, row-kept, turned-lt, zeros-bit}
-use Rattle.neighbours.proofs.JoinLaws.{plane-kept, plane-more, plane-same, rows-more}
+use Rattle.neighbours.proofs.JoinLaws.{plane-kept, plane-more}
 
 -- ---- numbers
 
@@ -29,10 +29,6 @@ min-less a b = by (decLe a b)
     by : Dec (a ≤ b) → min a b ≡ a - (a - b)
     by (yes l) = min-eq-left l ∙ omega arith
     by (no l) = min-comm a b ∙ min-eq-left (omega arith) ∙ omega arith
-
--- a rows and b more, of n
-pub rows-in : (a b n r : ℕ) → a + b ≤ n → a * r + b * r ≤ n * r
-rows-in a b n r l = omega (arith, add-mul a b r, mul-le-mul-right r l)
 
 pub rows-small : (m r k : ℕ) → 0 < r → m * r ≤ k → m ≤ k
 rows-small m r k h l = let q : m * 1 ≤ m * r = mul-le-mul-left m h in omega arith
@@ -182,7 +178,7 @@ within-start r s k old new er e l m = record {
   size = m .size;
   pixels = λ x lx.
       m .pixels x lx
-      ∙ ap (λ (c : Bool). rowBit old x && c) (by x (decLe k x) ∙ and-true (leb 8 (x + s)) ∙ ap (λ (c : Bool). leb 8 (x + s) && c) (sym (lt-ltb (x + s) (8 * r + 8) (omega arith))));
+      ∙ ap (λ (c : Bool). rowBit old x && c) (by x (decLe k x) ∙ sym (and-true (leb 8 (x + s))) ∙ ap (λ (c : Bool). leb 8 (x + s) && c) (sym (lt-ltb (x + s) (8 * r + 8) (omega arith))));
 }
   where
     by : (x : ℕ) → Dec (k ≤ x) → leb k x ≡ leb 8 (x + s)
@@ -200,12 +196,6 @@ within-end r s w old new er e l m = record {
     by : (x : ℕ) → Dec (x < w) → ltb x w ≡ ltb (x + s) (8 * r + 8)
     by x (yes a) = lt-ltb x w a ∙ sym (lt-ltb (x + s) (8 * r + 8) (omega arith))
     by x (no a) = le-ltb x w (omega arith) ∙ sym (le-ltb (x + s) (8 * r + 8) (omega arith))
-
-and-swap : (a b : Bool) → (a && b) ≡ (b && a)
-and-swap true true = refl
-and-swap true false = refl
-and-swap false true = refl
-and-swap false false = refl
 
 -- one row more with its ends cleared
 pub rows-cleared : (r m s k : ℕ) (u v ys : List ℕ) → k ≡ r → m * r + r ≤ length v → PlaneIs 0 r m u v (λ y x. rowBit u (8 * (0 + y * r) + x) && isWithin r (x + s))
@@ -246,7 +236,7 @@ module _ (buf mid : List ℕ) (s r m : ℕ) (moved : (x : ℕ) → x < 8 * (m * 
   strip-cleared new c y x ly lx =
       let e : 8 * (0 + y * r) + x ≡ 8 * (y * r) + x = omega arith in
       ap (rowBit new) (sym e) ∙ c .pixels y x ly lx ∙ ap (λ (n : ℕ). rowBit mid n && isWithin r (x + s)) e ∙ ap (λ (b : Bool). b && isWithin r (x + s)) (moved-at y x ly lx)
-      ∙ and-swap (rowBit buf (8 * (y * r) + (x + s))) (isWithin r (x + s))
+      ∙ and-comm (rowBit buf (8 * (y * r) + (x + s))) (isWithin r (x + s))
 
   -- a move by 8 takes nothing from beyond a row's ends
   pub strip-whole : s ≡ 8 → Moved buf s r m mid

@@ -3,11 +3,10 @@
 use mathlib.Core.Bool.{Bool, _&&_, cond, false, not, true}
 use mathlib.Core.List.{List}
 use mathlib.Core.Path.{_≡_}
-use Prim.Native.Nat.{_*_, _+_, _-_, _/_, _<_, _^_, _≤_, suc, zero, ℕ}
+use Prim.Native.Nat.{_*_, _+_, _-_, _/_, _<_, _^_, suc, zero, ℕ}
 use lib.Dec.{leb, ltb}
-use lib.ListN.{getD, length}
 use Rattle.morphology.specs.Element.{bit}
-use Rattle.raster.specs.Rows.{join, rowBit}
+use Rattle.raster.specs.Rows.{PlaneIs, join, rowBit}
 
 -- pixel (X - 8, Y - 2) of a plane of h rows of r bytes; background outside
 unfoldable pub nearBit : List ℕ → ℕ → ℕ → ℕ → ℕ → Bool
@@ -62,13 +61,6 @@ neighbours t e near x y = joined t 5 (λ k. fiveOf t (e / 2 ^ (k * 5)) (λ X. ne
 -- what a column of an element, its bits 0, 5, 10, 15 and 20, asks of rows
 unfoldable pub columnOf : Bool → ℕ → (ℕ → Bool) → Bool
 columnOf t column rows = joined t 5 (λ k. cond (bit column (k * 5)) (rows (turned t k)) (not t))
-
--- new is old but for the m rows of r bytes at p, of which pixel x of row y is g y x
-pub record PlaneIs (p r m : ℕ) (old new : List ℕ) (g : ℕ → ℕ → Bool) : Type 0 where
-  pub size : length new ≡ length old
-  pub before : (j : ℕ) → j < p → getD new j 0 ≡ getD old j 0
-  pub after : (j : ℕ) → p + m * r ≤ j → getD new j 0 ≡ getD old j 0
-  pub pixels : (y x : ℕ) → y < m → x < 8 * r → rowBit new (8 * (p + y * r) + x) ≡ g y x
 
 -- new is old with f joined to each pixel of the h rows of r bytes at p
 abbrev pub PlaneJoined : Bool → ℕ → ℕ → ℕ → List ℕ → List ℕ → (ℕ → ℕ → Bool) → Type 0

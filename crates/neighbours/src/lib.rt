@@ -5,8 +5,8 @@ ghost use Prim.Native.Nat.{_+_, _-_, _*_, _<_, _≤_, min};
 ghost use lib.Dec.{eqb};
 ghost use lib.ListN.{length};
 ghost use Rattle.raster.specs.Limits.{maxFrame, maxStride};
-ghost use Rattle.raster.specs.Rows.{rowBit, readBit, Pixelwise, RowJoined};
-ghost use Rattle.neighbours.specs.Neighbours.{NearRows, Moved, turned, isWithin, columnOf, neighbours, source, sourceBit, stripBit, PlaneIs, PlaneJoined};
+ghost use Rattle.raster.specs.Rows.{Pixelwise, PlaneIs, RowJoined, readBit, rowBit};
+ghost use Rattle.neighbours.specs.Neighbours.{NearRows, Moved, turned, isWithin, columnOf, neighbours, source, sourceBit, stripBit, PlaneJoined};
 ghost use Rattle.neighbours.specs.Strips.{Joining, Loading, Shift, Stride};
 
 // Bytes of the rows that are joined at a time, and of these with the two rows above them and the two below.

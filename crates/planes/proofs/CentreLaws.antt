@@ -11,13 +11,13 @@ use lib.Dec.{eqb, ltb}
 use lib.ListN.{drop, getD-replicate, length, length-replicate, replicate, take}
 use Rattle.morphology.specs.Element.{bit}
 use Rattle.morphology.specs.Image.{bitOf}
-use Rattle.raster.specs.Rows.{RowIs, join, rowBit}
+use Rattle.raster.specs.Rows.{PlaneIs, RowIs, join, rowBit}
 use Rattle.raster.proofs.ByteLaws.{full-bit}
 use Rattle.raster.proofs.PartLaws.{PartIs, part-back, part-bit}
 use Rattle.raster.proofs.RowLaws.{row-in}
-use Rattle.neighbours.specs.Neighbours.{PlaneIs, PlaneJoined, fiveOf, joined, nearBit, neighbours, turned}
-use Rattle.planes.specs.Begun.{Begun, RowsTo, startByte}
-use Rattle.neighbours.proofs.NeighbourLaws.{join-assoc, join-comm, join-unit, joined-same, near-same, unit-join, zeros-bit}
+use Rattle.neighbours.specs.Neighbours.{PlaneJoined, fiveOf, joined, nearBit, neighbours, turned}
+use Rattle.planes.specs.Begun.{Begun, startByte}
+use Rattle.neighbours.proofs.NeighbourLaws.{below5, join-assoc, join-comm, join-unit, joined-same, near-same, unit-join, zeros-bit}
 
 -- v joined at q alone
 joined-add : (t : Bool) (n q : ℕ) (v : Bool) (f g : ℕ → Bool) → q < n → ((i : ℕ) → i < n → (i ≡ q → ⊥) → f i ≡ g i) → f q ≡ join t v (g q)
@@ -32,15 +32,6 @@ joined-add t (suc n) q v f g l e h = by (decLt q n) (λ m. joined-add t n q v f 
         let z : n ≡ q = omega arith in
         ap₂ (join t) (joined-same t n f g (λ i li. e i (omega arith) (λ y. omega arith))) (ap f z ∙ h ∙ ap (λ (i : ℕ). join t v (g i)) (sym z))
         ∙ sym (join-assoc t (joined t n g) v (g n)) ∙ ap (λ (b : Bool). join t b (g n)) (join-comm t (joined t n g) v) ∙ join-assoc t v (joined t n g) (g n)
-
--- each j below 5
-below5 : (P : ℕ → Type 0) → P 0 → P 1 → P 2 → P 3 → P 4 → (j : ℕ) → j < 5 → P j
-below5 P a b c d e zero l = a
-below5 P a b c d e (suc zero) l = b
-below5 P a b c d e (suc (suc zero)) l = c
-below5 P a b c d e (suc (suc (suc zero))) l = d
-below5 P a b c d e (suc (suc (suc (suc zero)))) l = e
-below5 P a b c d e (suc (suc (suc (suc (suc j))))) l = absurd (omega arith)
 
 -- the same digit where the halves differ by the half
 same-digit : (m n c : ℕ) → m ≡ n + 2 * c → m / 2 ≡ n / 2 + c → m % 2 ≡ n % 2
@@ -195,7 +186,7 @@ plane-started t p r h k n v old ys q hp hn hv m =
 pub plane-done : (t : Bool) (p r h w e rest : ℕ) (v₀ v₁ v₂ v₃ : List ℕ) → h * r ≤ p → Begun t p r h e rest v₀ v₁
     → PlaneJoined t p r h v₁ v₂ (λ y x. neighbours t rest (nearBit v₁ r h) x y)
     → PlaneIs p r h v₂ v₃ (λ y x. rowBit v₂ (8 * (p + y * r) + x) && ltb x w)
-    → RowsTo t h p w r h e v₀ v₃
+    → PlaneIs p r h v₀ v₃ (λ y x. neighbours t e (nearBit v₀ r h) x y && ltb x w)
 plane-done t p r h w e rest v₀ v₁ v₂ v₃ hp a b c = record {
   size = c .size ∙ b .size ∙ a .size;
   before = λ j z. c .before j z ∙ b .before j z ∙ a .before j z;

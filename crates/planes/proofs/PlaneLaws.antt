@@ -3,15 +3,14 @@ use mathlib.Core.Bool.{Bool, _&&_, false, true}
 use mathlib.Core.List.{List, List·Memᴰ, _++_}
 use mathlib.Core.Path.{_∙_, _≡_, ap, refl, subst, sym}
 use Prim.Native.Nat.{_*_, _+_, _-_, _<_, _≤_, ℕ}
-use native.Mathlib.Nat.{le-refl}
 use native.Mathlib.Omega.{arith}
 use borrow.Author.Tests.{lt-ltb}
 use lib.Dec.{T, lit<, ltb}
 use lib.IntN.{pos}
 use lib.ListN.{List·getD-append, drop, getD, length, length-drop, take}
-use lib.Seq.{getD-drop, getD-take, length-take-le, take-all}
+use lib.Seq.{take-all}
 use Rattle.morphology.specs.Element.{bit, offset, offsets}
-use Rattle.morphology.specs.Image.{clip, imageSet, isClean, pack, planeBytes, stride}
+use Rattle.morphology.specs.Image.{clip, imageSet, isClean, pack, planeBytes}
 use Rattle.morphology.specs.Morphology.{dilate, erode, opening}
 use Rattle.morphology.specs.Point.{Point, at, origin}
 use Rattle.morphology.proofs.ElementLaws.{in-below}
@@ -20,27 +19,13 @@ use Rattle.morphology.proofs.ImageLaws.{Agree, clean-agree, clean-pack, clip-is
 use Rattle.morphology.proofs.MorphologyLaws.{erode-out, open-sub}
 use Rattle.morphology.proofs.PlaneLaws.{on-sub}
 use Rattle.morphology.proofs.PointLaws.{unit}
-use Rattle.raster.specs.Limits.{maxStride}
-use Rattle.raster.specs.Rows.{overwrite, rowBit}
-use Rattle.raster.proofs.PartLaws.{cut-bit, part-bytes, drop-overwrite, length-overwrite, overwrite-is, overwrite-rest}
-use Rattle.raster.proofs.RowLaws.{row-in}
-use Rattle.planes.specs.Frames.{Frame, morphed}
-use Rattle.neighbours.specs.Neighbours.{PlaneIs, nearBit, neighbours}
-use Rattle.planes.specs.Begun.{RowsTo}
-use Rattle.planes.proofs.SetLaws.{near-image, neighbours-set, pack-pixels}
-
--- ---- frames
-
-pub frame-row : {w h r : ℕ} → Frame w h r → (w ≤ 8 * r) × (8 * r < w + 8) × (0 < r) × (r ≤ maxStride)
-unfolding stride
-frame-row {w} {h} {r} f =
-    let a = f .wide in
-    let b = f .across in
-    let c = f .row in
-    (omega arith, omega arith, omega arith, omega arith)
-
-pub frame-bytes : {w h r : ℕ} → Frame w h r → h * r ≡ planeBytes w h
-frame-bytes {w} {h} {r} f = ap (λ (n : ℕ). h * n) (f .row)
+use Rattle.raster.specs.Rows.{PlaneIs, overwrite}
+use Rattle.raster.proofs.PartLaws.{drop-overwrite, length-overwrite, overwrite-rest}
+use Rattle.raster.specs.Frames.{Frame}
+use Rattle.raster.proofs.PackLaws.{frame-bytes, plane-packed}
+use Rattle.neighbours.specs.Neighbours.{nearBit, neighbours}
+use Rattle.planes.proofs.SetLaws.{near-image, neighbours-set}
+use Rattle.planes.specs.Morphed.{morphed}
 
 -- ---- sets on the frame
 
@@ -64,49 +49,22 @@ cut-swap true false false e = refl
 cut-swap false true false e = refl
 cut-swap false false false e = refl
 
--- a plane whose pixels are those of a set, padding included
-pub plane-packed : (W H r p : ℕ) (X : Point → Bool) (g : ℕ → ℕ → Bool) (old new : List ℕ) → Frame W H r → p + H * r ≤ length old → ((i : ℕ) → getD new i 0 < 256)
-    → PlaneIs p r H old new g → ((y x : ℕ) → y < H → x < 8 * r → g y x ≡ X (at (pos x) (pos y))) → new ≡ overwrite p (pack W H X) old
-plane-packed W H r p X g old new f h bytes m e =
-    overwrite-is p n old (pack W H X) new (length-pack W H X ∙ sym (frame-bytes f)) h (record {
-      size = m .size;
-      within = λ j l. sym (getD-drop p new j 0) ∙ sym (getD-take n (drop p new) j 0 l) ∙ ap (λ (s : List ℕ). getD s j 0) (sym written);
-      before = m .before;
-      after = m .after;
-    })
-  where
-    n : ℕ
-    n = H * r
-
-    bits : (y x : ℕ) → y < H → x < 8 * r → rowBit (take n (drop p new)) (8 * (y * r) + x) ≡ X (at (pos x) (pos y))
-    bits y x hy hx =
-        let i = row-in y H r (H * r) hy (le-refl (H * r)) in
-        let z : 8 * p + (8 * (y * r) + x) ≡ 8 * (p + y * r) + x = omega arith in
-        cut-bit p n new (8 * (y * r) + x) (omega (arith, i)) ∙ ap (rowBit new) z ∙ m .pixels y x hy hx ∙ e y x hy hx
-
-    written : pack W H X ≡ take n (drop p new)
-    written =
-        let sz = m .size in
-        pack-pixels W H X (take n (drop p new))
-        (length-take-le n (drop p new) (omega (arith, length-drop p new)) ∙ frame-bytes f)
-        (part-bytes p n new bytes (omega arith))
-        (subst (λ (k : ℕ). (y x : ℕ) → y < H → x < 8 * k → rowBit (take n (drop p new)) (8 * (y * k) + x) ≡ X (at (pos x) (pos y))) (f .row) bits)
-
 pub plane-done : (t : Bool) (W H r p e : ℕ) (old new : List ℕ) → Frame W H r → p + H * r ≤ length old → T (isClean W H old)
     → ((i : ℕ) → getD new i 0 < 256)
-    → RowsTo t H p W r H e old new → new ≡ overwrite p (pack W H (clip W H (morphed t (offsets e) (imageSet W H old)))) old
+    → PlaneIs p r H old new (λ y x. neighbours t e (nearBit old r H) x y && ltb x W)
+    → new ≡ overwrite p (pack W H (clip W H (morphed t (offsets e) (imageSet W H old)))) old
 unfolding clip
 plane-done t W H r p e old new f h clean bytes m =
     let S = imageSet W H old in
-    plane-packed W H r p (clip W H (morphed t (offsets e) S)) (λ y x. neighbours t e (nearBit old r H) x y && ltb x W) old new f h bytes
-    (record { size = m .size; before = m .before; after = m .after; pixels = m .pixels }) (λ y x hy hx.
+    plane-packed W H r p (clip W H (morphed t (offsets e) S)) (λ y x. neighbours t e (nearBit old r H) x y && ltb x W) old new f h bytes m (λ y x hy hx.
     ap (λ (b : Bool). b && ltb x W) ((λ i. neighbours t e (λ X Y. near-image W H r old (f .row) clean X Y i) x y) ∙ neighbours-set t e S x y)
     ∙ cut-swap (morphed t (offsets e) S (at (pos x) (pos y))) (ltb x W) (ltb y H) (lt-ltb y H hy))
 
 -- with the origin in the element, an eroded image lies on the frame
 pub erosion-done : (W H r p e : ℕ) (old new : List ℕ) → Frame W H r → H * r ≤ p → p + H * r ≤ length old → T (bit e 12) → T (isClean W H old)
     → ((i : ℕ) → getD new i 0 < 256)
-    → RowsTo false H p W r H e old new → new ≡ overwrite p (pack W H (erode (offsets e) (imageSet W H old))) old
+    → PlaneIs p r H old new (λ y x. neighbours false e (nearBit old r H) x y && ltb x W)
+    → new ≡ overwrite p (pack W H (erode (offsets e) (imageSet W H old))) old
 erosion-done W H r p e old new f hp h o clean bytes m =
     let S = imageSet W H old in
     plane-done false W H r p e old new f h clean bytes m

@@ -1,2 +1,2 @@
-pub mod Frames
+pub mod Morphed
 pub mod Begun

@@ -8,10 +8,10 @@ ghost use Rattle.morphology.specs.Element.{offsets, bit};
 ghost use Rattle.morphology.specs.Image.{imageSet, pack, isClean, clip};
 ghost use Rattle.morphology.specs.Morphology.{erode, dilate, opening};
 ghost use Rattle.raster.specs.Limits.{maxFrame, maxStride};
-ghost use Rattle.raster.specs.Rows.{rowBit, overwrite};
-ghost use Rattle.neighbours.specs.Neighbours.{PlaneIs};
-ghost use Rattle.planes.specs.Frames.{Frame};
-ghost use Rattle.planes.specs.Begun.{startByte, Begun, RowsTo};
+ghost use Rattle.raster.specs.Rows.{PlaneIs, overwrite, rowBit};
+ghost use Rattle.raster.specs.Frames.{Frame};
+ghost use Rattle.neighbours.specs.Neighbours.{nearBit, neighbours};
+ghost use Rattle.planes.specs.Begun.{startByte, Begun};
 
 // What a row begins with: background before a dilation, foreground before an erosion.
 fn start(dilating: bool) -> u8
@@ -28,9 +28,9 @@ fn begin_plane(dilating: bool, work: &mut [u8], p: usize, r: usize, h: usize, el
     requires { ⌜ (h * r ≤ p) × (p + h * r ≤ length (now work)) ⌝ }
     ensures { λ rest. ⌜ Begun dilating p r h element rest (now (work .entry)) (now (work .exit)) ⌝ }
 {
-    if element / 4096 % 2 == 1 {
+    if element / elements::ORIGIN % 2 == 1 {
         raster::copy_up(work, p, h * r);
-        return element - 4096;
+        return element - elements::ORIGIN;
     }
     let end = p + h * r;
     raster::fill(&mut work[p..end], start(dilating));
@@ -61,7 +61,7 @@ fn morph_plane(
     element: u32,
 )
     requires { ⌜ (h * r ≤ p) × (p + h * r ≤ length (now work)) × (w ≤ 8 * r) × (8 * r < w + 8) × (0 < r) × (r ≤ maxStride) × (h ≤ maxFrame) ⌝ }
-    ensures { λ _. ⌜ RowsTo dilating h p w r h element (now (work .entry)) (now (work .exit)) ⌝ }
+    ensures { λ _. ⌜ PlaneIs p r h (now (work .entry)) (now (work .exit)) (λ y x. neighbours dilating element (nearBit (now (work .entry)) r h) x y && ltb x w) ⌝ }
 {
     let rest = begin_plane(dilating, work, p, r, h, element);
     let none = [0u8; 1];

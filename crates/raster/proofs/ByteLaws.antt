@@ -1,14 +1,14 @@
 -- Pixels of bytes under `&`, `|` and shifts.
-use mathlib.Core.Bool.{Bool, _&&_, false, not, true, xor}
+use mathlib.Core.Bool.{Bool, _&&_, and-false, and-true, false, not, true, xor}
 use mathlib.Core.Path.{_∙_, _≡_, ap, refl, sym}
 use Prim.Native.Nat.{_%_, _*_, _+_, _-_, _/_, _<_, _^_, _≤_, suc, zero, ℕ}
 use native.Mathlib.Decide.{decLe}
-use native.Mathlib.Nat.{add-zero, mod-eq-of-lt, zero-div}
+use native.Mathlib.Nat.{add-zero, mod-eq-of-lt, zero-div, zero-mul}
 use native.Mathlib.Omega.{arith}
-use borrow.Author.Tests.{le-leb, le-ltb, lt-leb, lt-ltb}
-use lib.Bits.{bitAnd, bitOr, bitXor, or-shifted}
+use borrow.Author.Tests.{le-leb, le-ltb, lt-leb, lt-ltb, ne-eqb}
+use lib.Bits.{and-high, bitAnd, bitOr, bitXor, or-shifted}
 use lib.Dec.{eqb, leb, ltb}
-use lib.Pow.{shl-shr, shr-shr, split}
+use lib.Pow.{pow-pos, shl-shr, shr-shr, split}
 use Rattle.morphology.specs.Element.{bit}
 use Rattle.morphology.specs.Image.{bitOf}
 use Rattle.morphology.proofs.BitLaws.{bit-and, bit-or, bit-xor}
@@ -94,14 +94,6 @@ moved-bit a b d k ha hb hd hk =
     ∙ ap (λ (n : ℕ). n % 2) (shr-shr v (8 - d) (7 - k))
     ∙ ap (λ (n : ℕ). v / 2 ^ n % 2) (omega arith))
 
-pub and-true : (b : Bool) → b ≡ (b && true)
-and-true true = refl
-and-true false = refl
-
-and-false : (b : Bool) → false ≡ (b && false)
-and-false true = refl
-and-false false = refl
-
 -- the lowest k bits cleared: pixels from 8 - k on are background
 pub cleared-bit : (v k j : ℕ) → v < 256 → k < 8 → j < 8 → bitOf ((v / 2 ^ k * 2 ^ k) % 2 ^ 8) j ≡ (bitOf v j && ltb j (8 - k))
 unfolding bitOf
@@ -123,12 +115,12 @@ cleared-bit v k j hv hk hj = ap (λ (n : ℕ). eqb (n / 2 ^ m % 2) 1) e ∙ by (
         ap (λ (n : ℕ). eqb (n % 2) 1)
         (ap (λ (n : ℕ). u / 2 ^ n) q ∙ sym (shr-shr u k (m - k)) ∙ ap (λ (n : ℕ). n / 2 ^ (m - k)) (shl-shr (v / 2 ^ k) k)
         ∙ shr-shr v k (m - k) ∙ ap (λ (n : ℕ). v / 2 ^ n) (sym q))
-        ∙ and-true (eqb (v / 2 ^ m % 2) 1) ∙ ap (λ (b : Bool). eqb (v / 2 ^ m % 2) 1 && b) (sym (lt-ltb j (8 - k) h))
+        ∙ sym (and-true (eqb (v / 2 ^ m % 2) 1)) ∙ ap (λ (b : Bool). eqb (v / 2 ^ m % 2) 1 && b) (sym (lt-ltb j (8 - k) h))
     by (no l) =
         let h : 8 - k ≤ j = omega arith in
         ap (λ (n : ℕ). eqb n 1)
         (ap (λ (n : ℕ). n / 2 ^ m % 2) (sym (add-zero u)) ∙ below-top (v / 2 ^ k) k 0 m (omega arith) ∙ ap (λ (n : ℕ). n % 2) (zero-div (2 ^ m)))
-        ∙ and-false (eqb (v / 2 ^ m % 2) 1) ∙ ap (λ (b : Bool). eqb (v / 2 ^ m % 2) 1 && b) (sym (le-ltb j (8 - k) h))
+        ∙ sym (and-false (eqb (v / 2 ^ m % 2) 1)) ∙ ap (λ (b : Bool). eqb (v / 2 ^ m % 2) 1 && b) (sym (le-ltb j (8 - k) h))
 
 -- the highest k bits cleared: pixels before k are background
 pub started-bit : (v k j : ℕ) → k < 8 → j < 8 → bitOf ((v * 2 ^ k) % 2 ^ 8 / 2 ^ k) j ≡ (bitOf v j && leb k j)
@@ -144,13 +136,25 @@ started-bit v k j hk hj = ap (λ (n : ℕ). eqb (n % 2) 1) (shr-shr u k (7 - j))
         ap (λ (n : ℕ). eqb n 1)
         (ap (λ (n : ℕ). u / 2 ^ n % 2) q ∙ byte-dig (v * 2 ^ k) (j - k) (omega arith) ∙ ap (λ (n : ℕ). v * 2 ^ k / 2 ^ n % 2) (sym q)
         ∙ ap (λ (n : ℕ). n % 2) (sym (shr-shr (v * 2 ^ k) k (7 - j)) ∙ ap (λ (n : ℕ). n / 2 ^ (7 - j)) (shl-shr v k)))
-        ∙ and-true (eqb (v / 2 ^ (7 - j) % 2) 1) ∙ ap (λ (b : Bool). eqb (v / 2 ^ (7 - j) % 2) 1 && b) (sym (le-leb k j l))
+        ∙ sym (and-true (eqb (v / 2 ^ (7 - j) % 2) 1)) ∙ ap (λ (b : Bool). eqb (v / 2 ^ (7 - j) % 2) 1 && b) (sym (le-leb k j l))
     by (no l) =
         let q : k + (7 - j) ≡ 8 + (k - j - 1) = omega arith in
         let z : u / 2 ^ 8 ≡ 0 = omega arith in
         ap (λ (n : ℕ). eqb (n % 2) 1)
         (ap (λ (n : ℕ). u / 2 ^ n) q ∙ sym (shr-shr u 8 (k - j - 1)) ∙ ap (λ (n : ℕ). n / 2 ^ (k - j - 1)) z ∙ zero-div (2 ^ (k - j - 1)))
-        ∙ and-false (eqb (v / 2 ^ (7 - j) % 2) 1) ∙ ap (λ (b : Bool). eqb (v / 2 ^ (7 - j) % 2) 1 && b) (sym (lt-leb k j (omega arith)))
+        ∙ sym (and-false (eqb (v / 2 ^ (7 - j) % 2) 1)) ∙ ap (λ (b : Bool). eqb (v / 2 ^ (7 - j) % 2) 1 && b) (sym (lt-leb k j (omega arith)))
+
+-- the test of one bit
+pub bit-test : (b x : ℕ) → x < 8 → not (eqb (bitAnd b (128 / 2 ^ x)) 0) ≡ bitOf b x
+unfolding bitOf
+bit-test b x h =
+    ap (λ (n : ℕ). not (eqb (bitAnd b n) 0)) (below8 (λ (x : ℕ). 128 / 2 ^ x ≡ 2 ^ (1 + (7 - x)) - 2 ^ (7 - x)) refl refl refl refl refl refl refl refl x h)
+    ∙ ap (λ (n : ℕ). not (eqb n 0)) (and-high b 1 (7 - x)) ∙ by (b / 2 ^ (7 - x) % 2) (2 ^ (7 - x)) (omega arith) (pow-pos (7 - x))
+  where
+    by : (d p : ℕ) → d < 2 → 0 < p → not (eqb (d * p) 0) ≡ eqb d 1
+    by zero p h l = ap (λ (n : ℕ). not (eqb n 0)) (zero-mul p)
+    by (suc zero) p h l = ap not (ne-eqb (1 * p) 0 (λ e. absurd (omega arith)))
+    by (suc (suc d)) p h l = absurd (omega arith)
 
 pub zero-bit : (n k : ℕ) → n ≡ 0 → bitOf n k ≡ false
 unfolding bitOf

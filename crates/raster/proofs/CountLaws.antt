@@ -1,5 +1,5 @@
 -- Copies, counts, comparisons and padding, element by element.
-use mathlib.Core.Bool.{Bool, _&&_, _||_, false, not, true}
+use mathlib.Core.Bool.{Bool, _&&_, _||_, false, not, or-assoc, or-false}
 use mathlib.Core.List.{List, List·Memᴰ, [], _++_, _∷_}
 use mathlib.Core.Path.{_∙_, _≡_, ap, ap₂, refl, subst, sym}
 use Prim.Native.Nat.{_%_, _*_, _+_, _-_, _/_, _<_, _^_, _≤_, suc, zero, zero-le, ℕ}
@@ -123,18 +123,10 @@ sum-le (b ∷ l) k h = let q = sum-le l k (λ j. h (suc j)) in let p : b ≤ k =
 
 -- ---- ink
 
-or-assoc : (a b c : Bool) → (a || (b || c)) ≡ ((a || b) || c)
-or-assoc true b c = refl
-or-assoc false b c = refl
-
 pub any-suc : (p : ℕ → Bool) (l : List ℕ) (i : ℕ) → i < length l → someOf p (take (suc i) l) ≡ (someOf p (take i l) || p (getD l i 0))
 any-suc p [] i h = absurd (not-suc-le-zero h)
 any-suc p (b ∷ l) zero h = or-false (p b)
-  where
-    or-false : (c : Bool) → (c || false) ≡ c
-    or-false true = refl
-    or-false false = refl
-any-suc p (b ∷ l) (suc i) h = ap (λ (c : Bool). p b || c) (any-suc p l i (le-of-suc-le-suc h)) ∙ or-assoc (p b) (someOf p (take i l)) (p (getD l i 0))
+any-suc p (b ∷ l) (suc i) h = ap (λ (c : Bool). p b || c) (any-suc p l i (le-of-suc-le-suc h)) ∙ sym (or-assoc (p b) (someOf p (take i l)) (p (getD l i 0)))
 
 -- an or is 0 where both are
 pub or-ink : (a b : ℕ) → not (eqb (bitOr a b) 0) ≡ (not (eqb a 0) || not (eqb b 0))

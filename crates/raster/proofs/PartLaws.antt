@@ -1,6 +1,6 @@
 -- A whole whose part, lent, has come back.
 use mathlib.Core.Path.{_∙_, _≡_, ap, ap₂, refl, subst, sym}
-use mathlib.Core.Bool.{Bool, _&&_}
+use mathlib.Core.Bool.{Bool, _&&_, and-true}
 use mathlib.Core.List.{List, [], _++_, append-assoc, append-nil}
 use Prim.Native.Nat.{_%_, _*_, _+_, _-_, _/_, _<_, _^_, _≤_, ℕ}
 use native.Mathlib.Decide.{decLt}
@@ -13,7 +13,7 @@ use lib.ListN.{List·getD-append, List·getD-eq-default, drop, getD, length, len
 use lib.Seq.{drop-at, drop-drop, drop-length, ext-getD, getD-append-add, getD-drop, getD-set-other, getD-set-same, getD-take, length-take-le, take-add, take-all}
 use Rattle.morphology.specs.Image.{bitOf}
 use Rattle.raster.specs.Rows.{Pixelwise, RowIs, overwrite, rowBit}
-use Rattle.raster.proofs.ByteLaws.{and-true, cleared-bit, started-bit}
+use Rattle.raster.proofs.ByteLaws.{cleared-bit, started-bit}
 use Rattle.raster.proofs.RowLaws.{rowBit-same}
 
 -- new is old but for the k elements from a, which are ys
@@ -196,7 +196,7 @@ padding-row w k old ek hw hr h0 hv = record { size = length-set old last v; pixe
     by : (x : ℕ) → x < 8 * length old → Dec (x / 8 < last) → rowBit (set old last v) x ≡ (rowBit old x && ltb x w)
     by x l (yes m) =
         rowBit-same (set old last v) old x (getD-set-other old last (x / 8) v 0 (λ e. omega arith))
-        ∙ and-true (rowBit old x) ∙ ap (λ (b : Bool). rowBit old x && b) (sym (lt-ltb x w (omega arith)))
+        ∙ sym (and-true (rowBit old x)) ∙ ap (λ (b : Bool). rowBit old x && b) (sym (lt-ltb x w (omega arith)))
     by x l (no m) =
         let q : x / 8 ≡ last = omega arith in
         ap (λ (i : ℕ). bitOf (getD (set old last v) i 0) (x % 8)) q
@@ -216,7 +216,7 @@ started-row k old hk h0 = record { size = length-set old 0 v; pixels = λ x l. b
     by : (x : ℕ) → Dec (x < 8) → rowBit (set old 0 v) x ≡ (rowBit old x && leb k x)
     by x (no m) =
         rowBit-same (set old 0 v) old x (getD-set-other old 0 (x / 8) v 0 (λ e. omega arith))
-        ∙ and-true (rowBit old x) ∙ ap (λ (b : Bool). rowBit old x && b) (sym (le-leb k x (omega arith)))
+        ∙ sym (and-true (rowBit old x)) ∙ ap (λ (b : Bool). rowBit old x && b) (sym (le-leb k x (omega arith)))
     by x (yes m) =
         let q : x / 8 ≡ 0 = omega arith in
         let z : x % 8 ≡ x = omega arith in

@@ -4,7 +4,7 @@ use mathlib.Core.List.{List}
 use mathlib.Core.Path.{_∙_, _≡_, ap, ap₂, sym}
 use Prim.Native.Nat.{_%_, _*_, _+_, _-_, _/_, _<_, _≤_, ℕ}
 use native.Mathlib.Decide.{decLt}
-use native.Mathlib.Nat.{le-refl, mul-le-mul-right, suc-mul}
+use native.Mathlib.Nat.{add-mul, le-refl, mul-le-mul-right, suc-mul}
 use native.Mathlib.Omega.{arith}
 use lib.Bits.{bitAnd, bitXor, xor-zero-r}
 use lib.Dec.{eqb}
@@ -98,6 +98,10 @@ row-subtracted src old new n h m =
 
 pub row-in : (y h r n : ℕ) → y < h → h * r ≤ n → y * r + r ≤ n
 row-in y h r n l m = omega (arith, mul-le-mul-right r l, suc-mul y r)
+
+-- a rows and b more, of n
+pub rows-in : (a b n r : ℕ) → a + b ≤ n → a * r + b * r ≤ n * r
+rows-in a b n r l = omega (arith, add-mul a b r, mul-le-mul-right r l)
 
 pub row-at : (p y h r n : ℕ) → y < h → p + h * r ≤ n → p + y * r + r ≤ n
 row-at p y h r n l m = omega (arith, row-in y h r (h * r) l (le-refl (h * r)))

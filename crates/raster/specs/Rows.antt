@@ -50,6 +50,13 @@ pub record RowIs (d r : ℕ) (old new : List ℕ) (g : ℕ → Bool) : Type 0 wh
   pub after : (j : ℕ) → d + r ≤ j → getD new j 0 ≡ getD old j 0
   pub pixels : (x : ℕ) → x < 8 * r → rowBit new (8 * d + x) ≡ g x
 
+-- new is old but for the m rows of r bytes at p, of which pixel x of row y is g y x
+pub record PlaneIs (p r m : ℕ) (old new : List ℕ) (g : ℕ → ℕ → Bool) : Type 0 where
+  pub size : length new ≡ length old
+  pub before : (j : ℕ) → j < p → getD new j 0 ≡ getD old j 0
+  pub after : (j : ℕ) → p + m * r ≤ j → getD new j 0 ≡ getD old j 0
+  pub pixels : (y x : ℕ) → y < m → x < 8 * r → rowBit new (8 * (p + y * r) + x) ≡ g y x
+
 -- the sum of a list
 unfoldable pub sumOf : List ℕ → ℕ
 sumOf [] = 0

@@ -7,7 +7,7 @@ ghost use mathlib.Core.List.{_++_};
 ghost use Prim.Native.Nat.{ℕ, _+_, _*_, _<_, _≤_, _^_};
 ghost use lib.Dec.{leb, ltb, eqb};
 ghost use lib.ListN.{length, getD, replicate, take, drop};
-ghost use Rattle.morphology.specs.Image.{stride, isClean, onesOf, pixel as pixelOf};
+ghost use Rattle.morphology.specs.Image.{bitOf, stride, isClean, onesOf};
 ghost use Rattle.morphology.specs.Lists.{everyOf, someOf, upTo};
 ghost use Rattle.raster.specs.Limits.{maxFrame, maxStride};
 ghost use Rattle.raster.specs.Rows.{rowBit, readBit, exchangeByte, joinByte, Pixelwise, RowIs, RowJoined, Summed, sumOf};
@@ -85,13 +85,13 @@ pub fn clear_padding(row: &mut [u8], w: usize)
     row[last] = row[last] >> k << k;
 }
 
-// Whether pixel x of row y, of rows of r bytes, is foreground.
-pub fn pixel(s: &[u8], r: usize, w: usize, x: usize, y: usize) -> bool
-    requires { ⌜ (r ≡ stride w) × (y * r + r ≤ length (now s)) × (x < w) ⌝ }
-    ensures { λ b. ⌜ b ≡ pixelOf w (now (s .entry)) x y ⌝ }
+// Whether pixel k of the eight of a byte is foreground.
+pub fn is_ink(byte: u8, k: usize) -> bool
+    requires { ⌜ k < 8 ⌝ }
+    ensures { λ r. ⌜ r ≡ bitOf byte k ⌝ }
 {
-    let k = (7 - x % 8) as u32;
-    (s[y * r + x / 8] >> k) % 2 == 1
+    let bit = 128u8 >> (k as u32);
+    (byte & bit) != 0
 }
 
 // Each byte of dst becomes v.

@@ -11,7 +11,7 @@ use Rattle.morphology.specs.Labels.{labelAt}
 use Rattle.morphology.specs.Partial.{partialUnion}
 use Rattle.morphology.specs.Point.{Point}
 use Rattle.morphology.specs.Refusals.{isWild}
-use Rattle.planes.specs.Frames.{Frame}
+use Rattle.raster.specs.Frames.{Frame}
 use Rattle.label_read.specs.Points.{Tops}
 use Rattle.iteration.specs.Steps.{Sheet, dilated}
 

@@ -1,6 +1,4 @@
 // The tests of the table of refusals that operations share, and their order.
-pub mod extent;
-
 ghost use mathlib.Core.Path.{_≡_};
 ghost use mathlib.Core.Bool.{cond, false};
 ghost use mathlib.Core.List.{[], _∷_};
@@ -10,10 +8,6 @@ ghost use Rattle.morphology.specs.Refusals.{isSide, notPlane, notPlaces, shortW
 
 // The largest side, cut and n.
 pub const MAX_SIDE: u32 = 255;
-
-const MASK_END: u32 = 33554432;
-
-const ORIGIN: u32 = 4096;
 
 fn is_side(n: u32) -> bool
     ensures { λ r. ⌜ r ≡ isSide n ⌝ }
@@ -38,10 +32,10 @@ pub fn bad_sides(w: u32, h: u32) -> bool
 pub fn bad_element(mask: u32) -> bool
     ensures { λ r. ⌜ r ≡ row2 mask .1 ⌝ }
 {
-    if mask >= MASK_END {
+    if mask >= elements::MASK_END {
         return true;
     }
-    if mask / ORIGIN % 2 == 0 {
+    if mask / elements::ORIGIN % 2 == 0 {
         return true;
     }
     u32::count_ones(mask) < 2

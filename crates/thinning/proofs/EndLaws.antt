@@ -16,7 +16,7 @@ use Rattle.morphology.proofs.AreaLaws.{area-ones}
 use Rattle.morphology.proofs.PlaneLaws.{Plane, area-le}
 use Rattle.morphology.proofs.ThinningLaws.{less, points}
 use Rattle.raster.specs.Limits.{maxFrame}
-use Rattle.planes.specs.Frames.{Frame}
+use Rattle.raster.specs.Frames.{Frame}
 use Rattle.thinning.specs.Passes.{Ended, Leaves}
 use Rattle.thinning.proofs.ThinTurns.{Passed, passed-bound, passed-last, passed-start, passed-turn, plane-pass, thin-outcome}
 

@@ -1,7 +1,7 @@
 -- What a mask asks, and the plane of its hits.
-use mathlib.Core.Bool.{Bool, _&&_, cond, false, not, true}
+use mathlib.Core.Bool.{Bool, _&&_, and-assoc, cond, false, not, true}
 use mathlib.Core.List.{List, _∷_}
-use mathlib.Core.Path.{_∙_, _≡_, ap, ap₂, refl, subst, sym}
+use mathlib.Core.Path.{_∙_, _≡_, ap, ap₂, refl, sym}
 use Prim.Native.Nat.{_%_, _*_, _+_, _-_, _/_, _<_, _^_, suc, ℕ}
 use native.Mathlib.Omega.{arith}
 use lib.Dec.{T, eqb, eqb→eq, leb, ltb, ltb→lt}
@@ -15,12 +15,12 @@ use Rattle.morphology.specs.Point.{Point, _⊞_, at}
 use Rattle.morphology.specs.Thinning.{hit}
 use Rattle.morphology.proofs.TestLaws.{upto, upto-out}
 use Rattle.raster.specs.Rows.{rowBit}
-use Rattle.planes.specs.Frames.{Frame}
+use Rattle.raster.specs.Frames.{Frame}
+use Rattle.raster.proofs.PackLaws.{frame-bytes, pack-rows}
 use Rattle.neighbours.specs.Neighbours.{PlaneJoined, nearBit, neighbours, sourceBit}
 use Rattle.planes.proofs.CentreLaws.{near-itself, origin-less}
-use Rattle.planes.proofs.PlaneLaws.{frame-bytes}
 use Rattle.neighbours.proofs.JoinLaws.{plane-more}
-use Rattle.planes.proofs.SetLaws.{near-image, neighbours-set, pack-pixels}
+use Rattle.planes.proofs.SetLaws.{near-image, neighbours-set}
 use Rattle.thinning.specs.Hits.{hits, widened}
 use Rattle.thinning.proofs.MaskLaws.{Accepted, mask-of}
 
@@ -94,17 +94,12 @@ hits-set W H r fg bg image q m clean x y =
     z : Point
     z = at (pos x) (pos y)
 
-and-assoc : (a b c : Bool) → (a && (b && c)) ≡ ((a && b) && c)
-and-assoc true b c = refl
-and-assoc false b c = refl
-
 -- the image, and what the mask asks without its centre
 pub hits-done : (W H r fg bg e b : ℕ) (image old new : List ℕ) → Frame W H r → length image ≡ H * r → T (isMask (fg, bg)) → T (isClean W H image)
     → ((i : ℕ) → getD new i 0 < 256) → e ≡ widened fg → b ≡ widened bg → old ≡ image
     → PlaneJoined false 0 r H old new (λ y x. hits (e - 4096) b (nearBit image r H) x y) → new ≡ pack W H (hit (fg, bg) (imageSet W H image))
 hits-done W H r fg bg e b image old new f len t clean bytes qe qb qo a =
-    sym (pack-pixels W H (hit (fg, bg) S) new (a .size ∙ ap length qo ∙ len ∙ frame-bytes f) bytes
-    (subst (λ (k : ℕ). (y x : ℕ) → y < H → x < 8 * k → rowBit new (8 * (y * k) + x) ≡ hit (fg, bg) S (at (pos x) (pos y))) (f .row) bits))
+    sym (pack-rows W H r (hit (fg, bg) S) new (f .row) (a .size ∙ ap length qo ∙ len ∙ frame-bytes f) bytes bits)
   where
     S : Point → Bool
     S = imageSet W H image
@@ -120,7 +115,7 @@ hits-done W H r fg bg e b image old new f len t clean bytes qe qb qo a =
         let z : 8 * (0 + y * r) + x ≡ 8 * (y * r) + x = omega arith in
         let n = neighbours false b (λ X Y. not (near X Y)) x y in
         ap (rowBit new) (sym z) ∙ a .pixels y x hy hx
-        ∙ and-assoc (rowBit old (8 * (0 + y * r) + x)) (neighbours false (e - 4096) near x y) n
+        ∙ sym (and-assoc (rowBit old (8 * (0 + y * r) + x)) (neighbours false (e - 4096) near x y) n)
         ∙ ap₂ (λ (c : Bool) (k : ℕ). (c && neighbours false (k - 4096) near x y) && n) (ap₂ rowBit qo z ∙ sym (near-itself image r H x y hy hx)) qe
         ∙ ap₂ (λ (c : Bool) (k : ℕ). c && neighbours false k (λ X Y. not (near X Y)) x y)
         (origin-less false (widened fg) near x y (widened-centre fg (m .fg-small) (m .centre))) qb

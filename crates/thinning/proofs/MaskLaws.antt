@@ -1,7 +1,7 @@
 -- Masks that the table of refusals takes: what each has, and row 6 as the code tests it.
 use mathlib.Core.Bool.{Bool, Bool·beq, _&&_, false, not, true}
 use mathlib.Core.Path.{_∙_, _≡_, ap, ap₂, refl, sym}
-use Prim.Native.Nat.{_%_, _/_, _<_, _^_, _≤_, suc, zero, ℕ}
+use Prim.Native.Nat.{_%_, _/_, _<_, _^_, _≤_, ℕ}
 use native.Mathlib.Omega.{arith}
 use borrow.Author.Tests.{eq-eqb, le-ltb, lt-ltb, ne-eqb}
 use lib.Bits.{and-lt, bitAnd}
@@ -9,7 +9,7 @@ use lib.Dec.{T, eqb, eqb→eq, ltb, ltb→lt}
 use Rattle.morphology.specs.Element.{bit, isMask}
 use Rattle.morphology.specs.Lists.{everyOf, tabulate, upTo}
 use Rattle.morphology.specs.Refusals.{row6}
-use Rattle.morphology.proofs.BitLaws.{bit-and}
+use Rattle.morphology.proofs.BitLaws.{bit-and, odd}
 use Rattle.morphology.proofs.TestLaws.{and-l, and-r, upto-out}
 
 pub record Accepted (fg bg : ℕ) : Type 0 where
@@ -66,10 +66,3 @@ unfolding tabulate
 mask-apart fg bg hf hb o =
     ap not (no-bit (bitAnd fg bg) (and-lt 9 fg bg hf hb) ∙ (λ i. everyOf (λ k. not (bit-and fg bg k i)) (upTo 9)))
     ∙ sym (ap (λ (b : Bool). not (b && apart fg bg)) (eq-eqb (fg / 2 ^ 4 % 2) 1 (odd (fg / 16) o))) ∙ mask-small fg bg hf hb
-  where
-    odd : (q : ℕ) → (q % 2 ≡ 0 → ⊥) → q % 2 ≡ 1
-    odd q n = by (q % 2) refl
-      where
-        by : (d : ℕ) → q % 2 ≡ d → q % 2 ≡ 1
-        by zero z = absurd (n z)
-        by (suc d) z = omega arith

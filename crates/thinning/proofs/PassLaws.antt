@@ -16,7 +16,7 @@ use Rattle.morphology.proofs.ImageLaws.{length-pack, pixel-pack-wide}
 use Rattle.morphology.proofs.PlaneLaws.{Plane}
 use Rattle.raster.specs.Rows.{Pixelwise, rowBit}
 use Rattle.raster.proofs.RowLaws.{row-in}
-use Rattle.planes.proofs.SetLaws.{pack-pixels, pixel-image, row-pixel}
+use Rattle.raster.proofs.PackLaws.{pack-rows, row-image, row-pixel}
 use Rattle.thinning.specs.Passes.{Leaves}
 use Rattle.thinning.specs.declared.Mask.{Mask}
 use Rattle.thinning.proofs.ThinTurns.{masks-start, masks-turn, masksBelow, plane-pass}
@@ -25,12 +25,12 @@ use Rattle.thinning.proofs.ThinTurns.{masks-start, masks-turn, masksBel
 less-hits : (W H : ℕ) (Y : Point → Bool) (image t : List ℕ) → length image ≡ planeBytes W H → T (isClean W H image) → ((i : ℕ) → getD t i 0 < 256)
     → Pixelwise image t (λ x b. b && not (rowBit (pack W H Y) x)) → t ≡ pack W H (λ z. imageSet W H image z && not (Y z))
 less-hits W H Y image t len clean bytes a =
-    sym (pack-pixels W H (λ z. imageSet W H image z && not (Y z)) t (a .size ∙ len) bytes (λ y x hy hx.
+    sym (pack-rows W H (stride W) (λ z. imageSet W H image z && not (Y z)) t refl (a .size ∙ len) bytes (λ y x hy hx.
     let R = stride W in
     let i = row-in y H R (H * R) hy (le-refl (H * R)) in
     a .pixels (8 * (y * R) + x) (omega (arith, i, len))
     ∙ ap₂ (λ (b c : Bool). b && not c)
-    (row-pixel W image R x y refl ∙ sym (pixel-image W H image clean x y hx hy))
+    (row-image W H R image refl clean y x hy hx)
     (row-pixel W (pack W H Y) R x y refl ∙ pixel-pack-wide W H Y x y (omega arith) hy)))
 
 -- the hits in the first plane of work

@@ -11,7 +11,7 @@ ghost use Rattle.morphology.specs.Image.{imageSet, pack, isClean};
 ghost use Rattle.morphology.specs.Operations.{hitOrMiss, hitRows, thinRows, thin as thinWhole};
 ghost use Rattle.morphology.specs.Refusals.{firstRefusal, row6};
 ghost use Rattle.morphology.specs.Thinning.{hit, golayL, thinStep, thinPass};
-ghost use Rattle.planes.specs.Frames.{Frame};
+ghost use Rattle.raster.specs.Frames.{Frame};
 ghost use Rattle.iteration.specs.Steps.{Sheet};
 ghost use Rattle.thinning.specs.Hits.{widened};
 ghost use Rattle.thinning.specs.Passes.{Leaves, Ended};
@@ -69,9 +69,6 @@ const MASK_END: u32 = 512;
 // A mask's bit of the centre.
 const CENTRE: u32 = 16;
 
-// The element's bit of the origin.
-const ORIGIN: u32 = 4096;
-
 // The element with the offsets of a mask's number.
 fn widen(mask: u32) -> u32
     requires { ⌜ mask < 512 ⌝ }
@@ -86,7 +83,7 @@ fn hit_plane(w: usize, h: usize, r: usize, fg: u32, bg: u32, image: &[u8], out: 
     ensures { λ _. ⌜ now (out .exit) ≡ pack w h (hit (fg, bg) (imageSet w h (now (image .entry)))) ⌝ }
 {
     raster::copy(image, out);
-    neighbours::join_mask(false, image, out, r, h, widen(fg) - ORIGIN);
+    neighbours::join_mask(false, image, out, r, h, widen(fg) - elements::ORIGIN);
     neighbours::join_mask(true, image, out, r, h, widen(bg));
 }
 

@@ -8,12 +8,11 @@ use native.Mathlib.Omega.{arith}
 use denote.Ref.{now}
 use lib.ListN.{drop, getD, length, length-drop, take}
 use lib.Seq.{length-take-le}
-use Rattle.neighbours.specs.Neighbours.{PlaneIs}
-use Rattle.planes.proofs.PlaneLaws.{frame-row, plane-packed}
-use Rattle.neighbours.proofs.JoinLaws.{rows-none}
-use Rattle.raster.specs.Rows.{rowBit}
+use Rattle.raster.specs.Rows.{PlaneIs, rowBit}
 use Rattle.raster.proofs.LoopLaws.{Mapped, mapped-more, mapped-none}
 use Rattle.raster.proofs.RowLaws.{row-in}
+use Rattle.raster.proofs.PackLaws.{frame-row, plane-packed}
+use Rattle.raster.proofs.PlaneLaws.{rows-none}
 use Rattle.label_read.specs.Points.{greatestBelow, withPoints}
 use Rattle.label_read.proofs.PointLaws.{labelIs, points-more, points-set}
 use Rattle.label_read.proofs.add_points.Tie as tie

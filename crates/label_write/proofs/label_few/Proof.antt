@@ -21,8 +21,8 @@ abbrev μ-loop : tie.MeasureT-loop
 loop-holds : tie.Need-loop-holds Inv-loop μ-loop
 loop-holds c = (omega arith, mapped-none _ _)
 
-is-one-requires : tie.Need-is-one-requires Inv-loop μ-loop
-is-one-requires c κs = omega (arith, c .before .loop .inv .1 .size)
+is-ink-requires : tie.Need-is-ink-requires Inv-loop μ-loop
+is-ink-requires c κs = omega (arith, c .before .loop .inv .1 .size)
 
 slice-read-chosen : tie.Need-slice-read-chosen Inv-loop μ-loop
 slice-read-chosen c = omega (arith, c .before .before .before .loop .inv .1 .size)
@@ -45,7 +45,7 @@ loop-again c =
     let a = c .before .before .before .before .before .before .args in (
       omega (arith, l .inv .1 .size),
       mapped-more _ (omega (arith, l .inv .1 .size))
-          (c .chosen .ensures ∙ ap₂ (λ (t : Bool) (n : ℕ). cond t (a .v) n) (c .before .before .is-one .ensures) (l .inv .1 .rest (l .x) (omega arith))) (l .inv .1),
+          (c .chosen .ensures ∙ ap₂ (λ (t : Bool) (n : ℕ). cond t (a .v) n) (c .before .before .is-ink .ensures) (l .inv .1 .rest (l .x) (omega arith))) (l .inv .1),
     )
 
 sub-k : tie.Need-sub-k Inv-loop μ-loop
@@ -76,7 +76,7 @@ label-few-spec =
     Inv-loop
     μ-loop
     loop-holds
-    is-one-requires
+    is-ink-requires
     slice-read-chosen
     chosen-requires
     slice-write-labels

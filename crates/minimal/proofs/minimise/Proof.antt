@@ -1,16 +1,9 @@
--- `minimal::minimise` meets its contract.
-use mathlib.Core.Path.{_∙_, sym}
+-- `minimal::minimise`: what is left of the labels is the outcome.
 use borrow.Author.Needs.{needs}
 use denote.Ref.{now}
 use Rattle.minimal.proofs.MinimiseLaws.{minimise-done, minimise-refused, passed}
 use Rattle.minimal.proofs.minimise.Statement.{statement}
 use Rattle.minimal.proofs.minimise.Tie as tie
-
-abbrev start : tie.After-minimise-refusal → tie.Start
-start c = c .before .before .before .before .before .before .before
-
-abbrev to-else1 : tie.After-minimise-into-arg3 → tie.Else1
-to-else1 c = c .before .before .before
 
 minimise-refusal-requires : tie.Need-minimise-refusal-requires
 minimise-refusal-requires c κs = search needs
@@ -26,18 +19,14 @@ same-length-3 c = search needs
 
 returns : tie.Need-returns
 returns c =
-    let s = start (c .before) in
-    let a = s .args in
+    let a = c .before .before .before .before .before .before .before .before .args in
     minimise-refused (a .w) (a .h) (a .element) (now (a .labels)) (now (a .work)) (now (a .counters)) _ (c .before .minimise-refusal .ensures) (c .if1 .taken)
 
 minimise-into-requires : tie.Need-minimise-into-requires
 minimise-into-requires c κs =
-    let else1 = to-else1 c in
-    let at-minimise-refusal = else1 .before in
-    let s = start at-minimise-refusal in
-    let a = s .args in
-    passed (a .w) (a .h) (a .element) (now (a .labels)) (now (a .work)) (now (a .counters))
-    (sym (at-minimise-refusal .minimise-refusal .ensures) ∙ else1 .if1 .left)
+    let b = c .before .before .before in
+    let a = b .before .before .before .before .before .before .before .before .args in
+    passed (a .w) (a .h) (a .element) (now (a .labels)) (now (a .work)) (now (a .counters)) (b .before .minimise-refusal .ensures) (b .if1 .left)
 
 same-length-4 : tie.Need-same-length-4
 same-length-4 c = search needs
@@ -50,13 +39,11 @@ same-length-6 c = search needs
 
 returns-2 : tie.Need-returns-2
 returns-2 c =
-    let at-minimise-into = c .before .before .before .before .before .before in
-    let else1 = to-else1 (at-minimise-into .before) in
-    let at-minimise-refusal = else1 .before in
-    let s = start at-minimise-refusal in
-    let a = s .args in
-    minimise-done (a .w) (a .h) (a .element) (now (a .labels)) (now (a .work)) (now (a .counters)) _ (at-minimise-refusal .minimise-refusal .ensures) _ _ _ _
-    (else1 .if1 .left) (at-minimise-into .minimise-into .ensures)
+    let f = c .before .before .before .before .before .before in
+    let b = f .before .before .before .before in
+    let a = b .before .before .before .before .before .before .before .before .args in
+    minimise-done (a .w) (a .h) (a .element) (now (a .labels)) (now (a .work)) (now (a .counters)) _ (b .before .minimise-refusal .ensures) _ _ _ _ (b .if1 .left)
+    (f .minimise-into .ensures)
 
 pub minimise-spec : {M : Type 1} → statement M
 minimise-spec =

@@ -6,10 +6,10 @@ use mathlib.Core.Path.{_≡_, subst}
 use Prim.Native.Nat.{_*_, _+_, _-_, _≤_, ℕ}
 use lib.ListN.{drop, length, length-drop}
 use lib.Seq.{length-take-le}
-use Rattle.raster.specs.Rows.{rowBit}
+use Rattle.raster.specs.Rows.{PlaneIs, rowBit}
 use Rattle.raster.proofs.RowLaws.{row-in}
-use Rattle.neighbours.specs.Neighbours.{PlaneIs, isWithin}
-use Rattle.neighbours.proofs.JoinLaws.{rows-none}
+use Rattle.raster.proofs.PlaneLaws.{rows-none}
+use Rattle.neighbours.specs.Neighbours.{isWithin}
 use Rattle.neighbours.proofs.StripLaws.{rows-cleared}
 use Rattle.neighbours.proofs.clear_ends.Statement.{statement}
 use Rattle.neighbours.proofs.clear_ends.Tie as tie

@@ -4,7 +4,8 @@ use native.Mathlib.Omega.{arith}
 use Prim.Native.Nat.{_*_, _+_, _-_, _≤_}
 use lib.ListN.{length}
 use Rattle.neighbours.specs.Neighbours.{source}
-use Rattle.neighbours.proofs.StripLaws.{rows-in, strip-part}
+use Rattle.raster.proofs.RowLaws.{rows-in}
+use Rattle.neighbours.proofs.StripLaws.{strip-part}
 use borrow.Author.Needs.{needs}
 use Rattle.neighbours.proofs.join_near.Statement.{statement}
 use Rattle.neighbours.proofs.join_near.Tie as tie

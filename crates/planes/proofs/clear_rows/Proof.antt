@@ -7,11 +7,10 @@ use denote.Ref.{now}
 use lib.Dec.{ltb}
 use lib.ListN.{drop, length, length-drop}
 use lib.Seq.{length-take-le}
-use Rattle.neighbours.specs.Neighbours.{PlaneIs}
-use Rattle.neighbours.proofs.JoinLaws.{rows-more, rows-none}
-use Rattle.raster.specs.Rows.{rowBit}
+use Rattle.raster.specs.Rows.{PlaneIs, rowBit}
 use Rattle.raster.proofs.PartLaws.{pixelwise-part}
 use Rattle.raster.proofs.RowLaws.{row-at}
+use Rattle.raster.proofs.PlaneLaws.{rows-more, rows-none}
 use Rattle.planes.proofs.clear_rows.Statement.{statement}
 use Rattle.planes.proofs.clear_rows.Tie as tie
 

@@ -2,7 +2,8 @@
 use mathlib.Core.Bool.{true}
 use borrow.Author.Needs.{needs}
 use denote.Ref.{now}
-use Rattle.planes.proofs.PlaneLaws.{frame-row, plane-done}
+use Rattle.raster.proofs.PackLaws.{frame-row}
+use Rattle.planes.proofs.PlaneLaws.{plane-done}
 use Rattle.planes.proofs.dilate_plane.Statement.{statement}
 use Rattle.planes.proofs.dilate_plane.Tie as tie
 

@@ -1,7 +1,8 @@
 -- `planes::erode_plane` meets its contract.
 use borrow.Author.Needs.{needs}
 use denote.Ref.{now}
-use Rattle.planes.proofs.PlaneLaws.{erosion-done, frame-row}
+use Rattle.raster.proofs.PackLaws.{frame-row}
+use Rattle.planes.proofs.PlaneLaws.{erosion-done}
 use Rattle.planes.proofs.erode_plane.Statement.{statement}
 use Rattle.planes.proofs.erode_plane.Tie as tie
 

@@ -4,7 +4,7 @@ use native.Mathlib.Omega.{arith}
 use mathlib.Core.Path.{ap}
 use denote.Ref.{now}
 use lib.ListN.{length}
-use Rattle.planes.proofs.PlaneLaws.{frame-row}
+use Rattle.raster.proofs.PackLaws.{frame-row}
 use Rattle.thinning.proofs.HitRows.{both-asked, hits-done, widened-centre}
 use Rattle.thinning.proofs.MaskLaws.{mask-of}
 use Rattle.thinning.proofs.hit_plane.Statement.{statement}

@@ -5,7 +5,7 @@ use native.Mathlib.Omega.{arith}
 use borrow.Author.Needs.{needs}
 use denote.Ref.{now}
 use lib.Seq.{length-take-le}
-use Rattle.planes.proofs.PlaneLaws.{frame-bytes}
+use Rattle.raster.proofs.PackLaws.{frame-bytes}
 use Rattle.minimal.proofs.MarkLaws.{emptied, mark-at, mark-first}
 use Rattle.minimal.proofs.sizes.mark.Statement.{statement}
 use Rattle.minimal.proofs.sizes.mark.Tie as tie

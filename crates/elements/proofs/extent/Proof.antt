@@ -1,12 +1,12 @@
--- `refusals::extent::extent` meets its contract.
+-- `elements::extent` meets its contract.
 use mathlib.Core.Path.{_∙_, _≡_, ap}
 use Prim.Native.Nat.{_-_, _/_, _^_, _≤_, ℕ}
 use native.Mathlib.Omega.{arith}
 use borrow.Author.Needs.{needs}
 use lib.Pow.{shr-shr}
-use Rattle.refusals.proofs.ExtentLaws.{Far, far-done, far-start, far-turn}
-use Rattle.refusals.proofs.extent.extent.Statement.{statement}
-use Rattle.refusals.proofs.extent.extent.Tie as tie
+use Rattle.elements.proofs.ExtentLaws.{Far, far-done, far-start, far-turn}
+use Rattle.elements.proofs.extent.Statement.{statement}
+use Rattle.elements.proofs.extent.Tie as tie
 
 abbrev Inv-loop : tie.InvT-loop
 Inv-loop element across forward far₀ rest₀ i₀ far rest i = (i ≤ 25) × (rest ≡ element / 2 ^ i) × Far across forward element i far

@@ -1,9 +1,9 @@
--- `refusals::extent::farther` meets its contract.
+-- `elements::farther` meets its contract.
 use native.Mathlib.Omega.{arith}
 use borrow.Author.Tests.{ne-eqb}
-use Rattle.refusals.proofs.ExtentLaws.{farther-none, farther-one}
-use Rattle.refusals.proofs.extent.farther.Statement.{statement}
-use Rattle.refusals.proofs.extent.farther.Tie as tie
+use Rattle.elements.proofs.ExtentLaws.{farther-none, farther-one}
+use Rattle.elements.proofs.farther.Statement.{statement}
+use Rattle.elements.proofs.farther.Tie as tie
 
 returns : tie.Need-returns
 returns c = let a = c .before .before .args in farther-one (a .digit) (a .far) (a .r) _ (c .before .if1 .taken) (omega arith)

@@ -1,9 +1,9 @@
--- `refusals::extent::reach` meets its contract.
+-- `elements::reach` meets its contract.
 use native.Mathlib.Omega.{arith}
 use borrow.Author.Needs.{needs}
-use Rattle.refusals.proofs.ExtentLaws.{reach-back, reach-forward}
-use Rattle.refusals.proofs.extent.reach.Statement.{statement}
-use Rattle.refusals.proofs.extent.reach.Tie as tie
+use Rattle.elements.proofs.ExtentLaws.{reach-back, reach-forward}
+use Rattle.elements.proofs.reach.Statement.{statement}
+use Rattle.elements.proofs.reach.Tie as tie
 
 returns : tie.Need-returns
 returns c = reach-forward _ (c .before .before .args .a) _ (c .before .if1 .taken) (omega arith)

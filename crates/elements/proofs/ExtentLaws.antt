@@ -12,7 +12,7 @@ use Rattle.morphology.specs.Element.{bit, offset, offsets, offsetsBelow}
 use Rattle.morphology.specs.Extent.{above, below, extent}
 use Rattle.morphology.specs.Lists.{greatest}
 use Rattle.morphology.specs.Point.{Point}
-use Rattle.refusals.specs.Measures.{measure, reach}
+use Rattle.elements.specs.Measures.{measure, reach}
 
 -- ---- one coordinate
 

@@ -1,4 +1,4 @@
-// An element's extent to each of the four sides.
+// Structuring elements as numbers: the bit of the origin, the first number that is none, how far an element goes to each of the four sides.
 ghost use mathlib.Core.Path.{_≡_};
 ghost use mathlib.Core.Bool.{cond};
 ghost use Prim.Native.Nat.{_/_, _%_, _<_, _≤_, max};
@@ -6,7 +6,13 @@ ghost use lib.Dec.{eqb};
 ghost use lib.IntN.{subℕ};
 ghost use Rattle.morphology.specs.Element.{offsets};
 ghost use Rattle.morphology.specs.Extent.{extent as extentOf};
-ghost use Rattle.refusals.specs.Measures.{measure, reach as reachOf};
+ghost use Rattle.elements.specs.Measures.{measure, reach as reachOf};
+
+// The bit of the origin.
+pub const ORIGIN: u32 = 4096;
+
+// An element's number is below this.
+pub const MASK_END: u32 = 33554432;
 
 // The coordinate of an element's bit i, plus 2: x (across) or y.
 fn coordinate(across: bool, i: usize) -> usize
