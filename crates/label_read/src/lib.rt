@@ -134,7 +134,8 @@ fn join_labels(row: &[u8], v: u8, pixels: &mut [u8])
 // The same, where top is the row's largest label not above v: a row without label v is passed over. Answers the largest label below v.
 fn add_row(row: &[u8], top: u8, v: u8, pixels: &mut [u8]) -> u8
     requires { ⌜ (top ≡ greatestBelow (v + 1) (now row)) × (8 * length (now pixels) < length (now row) + 8) ⌝ }
-    ensures { λ t. ⌜ (t ≡ greatestBelow v (now (row .entry))) × Pixelwise (now (pixels .entry)) (now (pixels .exit)) (λ x b. b || isLabel (now (row .entry)) v x) ⌝ }
+    ensures { λ t. ⌜ (t ≡ greatestBelow v (now (row .entry)))
+        × Pixelwise (now (pixels .entry)) (now (pixels .exit)) (λ x b. b || isLabel (now (row .entry)) v x) ⌝ }
 {
     if top < v {
         return top;
@@ -153,7 +154,8 @@ pub fn add_points(
     v: u8,
     plane: &mut [u8],
 )
-    requires { ⌜ Frame w h r × (0 < v) × (length (now labels) ≡ w * h) × (h * r ≤ length (now plane)) × T (isClean w h (now plane)) × Tops w h v (now labels) (now tops) × (h ≤ length (now tops)) ⌝ }
+    requires { ⌜ Frame w h r × (0 < v) × (length (now labels) ≡ w * h) × (h * r ≤ length (now plane)) × T (isClean w h (now plane))
+        × Tops w h v (now labels) (now tops) × (h ≤ length (now tops)) ⌝ }
     ensures plane { λ _. ⌜ now (plane .exit) ≡ overwrite 0 (pack w h (withPoints w h (now (labels .entry)) v (now (plane .entry)))) (now (plane .entry)) ⌝ }
     ensures tops { λ _. ⌜ Tops w h (v - 1) (now (labels .entry)) (now (tops .exit)) ⌝ }
 {

@@ -61,7 +61,8 @@ fn morph_plane(
     element: u32,
 )
     requires { ⌜ (h * r ≤ p) × (p + h * r ≤ length (now work)) × (w ≤ 8 * r) × (8 * r < w + 8) × (0 < r) × (r ≤ maxStride) × (h ≤ maxFrame) ⌝ }
-    ensures { λ _. ⌜ PlaneIs p r h (now (work .entry)) (now (work .exit)) (λ y x. neighbours dilating element (nearBit (now (work .entry)) r h) x y && ltb x w) ⌝ }
+    ensures { λ _. ⌜ PlaneIs p r h (now (work .entry)) (now (work .exit))
+        (λ y x. neighbours dilating element (nearBit (now (work .entry)) r h) x y && ltb x w) ⌝ }
 {
     let rest = begin_plane(dilating, work, p, r, h, element);
     let none = [0u8; 1];
@@ -88,7 +89,8 @@ pub fn dilate_plane(w: usize, h: usize, r: usize, p: usize, element: u32, work: 
 // The first plane of work, eroded into the one at p; that one, dilated into the next: the opening.
 pub fn open_plane(w: usize, h: usize, r: usize, p: usize, element: u32, work: &mut [u8])
     requires { ⌜ Frame w h r × (h * r ≤ p) × (p + p + h * r ≤ length (now work)) × T (bit element 12) × T (isClean w h (now work)) ⌝ }
-    ensures { λ _. ⌜ now (work .exit) ≡ overwrite (p + p) (pack w h (opening (offsets element) (imageSet w h (now (work .entry))))) (overwrite p (pack w h (erode (offsets element) (imageSet w h (now (work .entry))))) (now (work .entry))) ⌝ }
+    ensures { λ _. ⌜ now (work .exit) ≡ overwrite (p + p) (pack w h (opening (offsets element) (imageSet w h (now (work .entry)))))
+        (overwrite p (pack w h (erode (offsets element) (imageSet w h (now (work .entry))))) (now (work .entry))) ⌝ }
 {
     erode_plane(w, h, r, p, element, work);
     dilate_plane(w, h, r, p, element, &mut work[p..]);
