@@ -1,4 +1,4 @@
--- `containment::column_limits` meets its contract.
+-- `containment::column_limits` meets its contract. The invariant: the first x limits are those of their columns. The measure is what is left of the columns.
 use mathlib.Core.Path.{_∙_, _≡_, refl}
 use Prim.Native.Nat.{_-_, _<_, _≤_, ℕ}
 use native.Mathlib.Nat.{not-suc-le-zero}

@@ -1,4 +1,5 @@
 -- `containment::has_wild` meets its contract.
+-- The invariant: the limits of the columns stand, and no label of the first y rows leaves the sheet. The measure is what is left of the rows.
 use mathlib.Core.Bool.{false}
 use mathlib.Core.Path.{_∙_, _≡_, refl, sym}
 use Prim.Native.Nat.{_-_, _≤_}

@@ -1,4 +1,5 @@
 -- `containment::row_is_wild` meets its contract.
+-- The invariant: wild tells whether one of the first x labels is over its limit. The measure is what is left of the row.
 use mathlib.Core.Bool.{_||_}
 use mathlib.Core.Path.{_∙_, _≡_, ap, ap₂, refl, sym}
 use Prim.Native.Nat.{_-_, _≤_, ℕ}

@@ -1,4 +1,5 @@
 -- `decomposition::decompose_into` meets its contract.
+-- The image is copied into an empty sheet with blank labels, from which the turns start; work is cleared after them.
 use mathlib.Core.Path.{_∙_, ap, sym}
 use Prim.Native.Nat.{_*_, _+_, _/_, ℕ}
 use native.Mathlib.Omega.{arith}

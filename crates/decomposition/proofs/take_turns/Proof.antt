@@ -1,4 +1,5 @@
--- `decomposition::take_turns` meets its contract. The invariant: after n turns work and labels are as `Turns` says, and the rows that hold ink are those of the band. The measure is the larger side less n.
+-- `decomposition::take_turns` meets its contract.
+-- The invariant: after n turns work and labels are as `Turns` says, and the rows that hold ink are those of the band. The measure is the larger side less n.
 use mathlib.Core.Path.{_∙_, _≡_, refl, subst, sym}
 use Prim.Native.Nat.{_*_, _-_, _<_, _≤_, max, ℕ}
 use native.Mathlib.Nat.{le-refl, mul-le-mul-right}

@@ -1,4 +1,4 @@
--- `decomposition::turn` meets its contract.
+-- `decomposition::turn` meets its contract. An opening, the labels of what it lacks, and the erosion copied down are one turn.
 use borrow.Author.Needs.{needs}
 use denote.Ref.{now}
 use Rattle.morphology.proofs.ElementLaws.{element-bit}

@@ -1,4 +1,4 @@
--- `iteration::dilate_step` meets its contract.
+-- `iteration::dilate_step` meets its contract. The dilation of the first plane, copied down, is the next first plane.
 use native.Mathlib.Omega.{arith}
 use borrow.Author.Needs.{needs}
 use denote.Ref.{now}

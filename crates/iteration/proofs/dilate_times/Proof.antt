@@ -1,4 +1,5 @@
 -- `iteration::dilate_times` meets its contract.
+-- The invariant: the first plane is dilated j times. The measure is n less j. An empty plane is left as it is.
 use mathlib.Core.Path.{_∙_, _≡_, refl, subst, sym}
 use Prim.Native.Nat.{_-_, _≤_, ℕ}
 use native.Mathlib.Omega.{arith}

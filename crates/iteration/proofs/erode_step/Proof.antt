@@ -1,4 +1,4 @@
--- `iteration::erode_step` meets its contract.
+-- `iteration::erode_step` meets its contract. The erosion of the first plane, copied down, is the next first plane.
 use native.Mathlib.Omega.{arith}
 use borrow.Author.Needs.{needs}
 use denote.Ref.{now}

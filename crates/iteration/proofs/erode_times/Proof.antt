@@ -1,4 +1,5 @@
 -- `iteration::erode_times` meets its contract.
+-- The invariant: the first plane is eroded i times. The measure is n less i; an empty plane ends the loop early, since it stays empty.
 use mathlib.Core.Path.{_∙_, _≡_, ap, subst, sym}
 use Prim.Native.Nat.{_-_, _≤_, ℕ}
 use native.Mathlib.Omega.{arith}

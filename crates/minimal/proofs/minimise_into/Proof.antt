@@ -1,4 +1,5 @@
 -- `minimal::minimise_into` meets its contract.
+-- What the rows of refusals let pass begins the count; the walk begins with what that leaves; counters and work are cleared.
 use mathlib.Core.Path.{_∙_, ap, refl}
 use Prim.Native.Nat.{_*_, _+_, _/_, ℕ}
 use native.Mathlib.Omega.{arith}

@@ -1,4 +1,5 @@
 -- `neighbours::join_column` meets its contract.
+-- The invariant: the first k bits of the column are joined, and rest is the column from bit k on. The measure is 5 less k.
 use denote.Ref.{now}
 use native.Mathlib.Omega.{arith}
 use mathlib.Core.Path.{_∙_, _≡_, ap}

@@ -1,4 +1,4 @@
--- `neighbours::join_if` meets its contract.
+-- `neighbours::join_if` meets its contract. A digit 1 joins the row, any other nothing.
 use denote.Ref.{now}
 use Rattle.raster.specs.Rows.{readBit}
 use Rattle.neighbours.proofs.NeighbourLaws.{row-if, row-unless}

@@ -1,4 +1,5 @@
--- `neighbours::join_plane` meets its contract. The invariant: the element is joined to the first y rows, and the buffers are as long as they were. The measure is what is left of the h rows.
+-- `neighbours::join_plane` meets its contract.
+-- The invariant: the element is joined to the first y rows, and the buffers are as long as they were. The measure is what is left of the h rows.
 use denote.Ref.{now}
 use native.Mathlib.Omega.{arith}
 use mathlib.Core.Path.{_≡_, subst}

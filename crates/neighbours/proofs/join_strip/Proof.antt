@@ -1,4 +1,5 @@
--- `neighbours::join_strip` meets its contract. The invariant: the first j columns of the element are joined, and rest is the element from column j on. The measure is 5 less j.
+-- `neighbours::join_strip` meets its contract.
+-- The invariant: the first j columns of the element are joined, and rest is the element from column j on. The measure is 5 less j.
 use denote.Ref.{now}
 use native.Mathlib.Omega.{arith}
 use mathlib.Core.Path.{_∙_, _≡_, ap, refl}

@@ -1,4 +1,5 @@
--- `neighbours::load_near` meets its contract. With the three sizes known, the rows that are copied lie within the plane and within the buffer (`fits`); then the law of loaded rows.
+-- `neighbours::load_near` meets its contract.
+-- With the three sizes known, the rows that are copied lie within the plane and within the buffer (`fits`); then the law of loaded rows.
 use denote.Ref.{now}
 use native.Mathlib.Omega.{arith}
 use mathlib.Core.Path.{ap}

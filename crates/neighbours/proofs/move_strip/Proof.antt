@@ -1,4 +1,5 @@
--- `neighbours::move_strip` meets its contract. The move of all bytes as one row is that of each row, once its ends are cleared; a move by none needs no clearing.
+-- `neighbours::move_strip` meets its contract.
+-- The move of all bytes as one row is that of each row, once its ends are cleared; a move by none needs no clearing.
 use denote.Ref.{now}
 use native.Mathlib.Omega.{arith}
 use mathlib.Core.Path.{sym}

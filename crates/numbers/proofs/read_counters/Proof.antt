@@ -1,4 +1,4 @@
--- `numbers::read_counters` meets its contract.
+-- `numbers::read_counters` meets its contract. The invariant: the first i counters are read. The measure is what is left of the counters.
 use Prim.Native.Nat.{_-_, _≤_}
 use native.Mathlib.Omega.{arith}
 use borrow.Author.Needs.{needs}

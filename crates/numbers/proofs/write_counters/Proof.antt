@@ -1,4 +1,4 @@
--- `numbers::write_counters` meets its contract.
+-- `numbers::write_counters` meets its contract. The invariant: the bytes of the first i counters are written. The measure is what is left of the counters.
 use mathlib.Core.Path.{_∙_}
 use Prim.Native.Nat.{_%_, _*_, _-_, _≤_}
 use native.Mathlib.Omega.{arith}

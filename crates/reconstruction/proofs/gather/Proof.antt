@@ -1,4 +1,5 @@
--- `reconstruction::gather` meets its contract. The invariant: the plane has the points of sizes from n on, gathered, and tops each row's largest label not above n. The measure is n.
+-- `reconstruction::gather` meets its contract.
+-- The invariant: the plane has the points of sizes from n on, gathered, and tops each row's largest label not above n. The measure is n.
 use Rattle.reconstruction.proofs.gather.Statement.{statement}
 use mathlib.Core.Path.{_∙_, _≡_, ap, refl, sym}
 use Prim.Native.Nat.{_*_, _+_, _≤_, max, ℕ}

@@ -1,4 +1,4 @@
--- `replay::main` meets its contract.
+-- `replay::main` meets its contract. The invariant: the buffers are as long as they were. The measure is the calls that are left.
 use mathlib.Core.Path.{_≡_, sym}
 use Prim.Native.Nat.{_-_, _^_, _≤_, ℕ}
 use native.Mathlib.Omega.{arith}

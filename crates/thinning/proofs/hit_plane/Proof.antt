@@ -1,4 +1,4 @@
--- `thinning::hit_plane` meets its contract.
+-- `thinning::hit_plane` meets its contract. What the mask's foreground and its background ask, both joined to a copy of the image, are the hits.
 use borrow.Author.Needs.{needs}
 use native.Mathlib.Omega.{arith}
 use mathlib.Core.Path.{ap}

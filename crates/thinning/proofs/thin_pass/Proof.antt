@@ -1,4 +1,4 @@
--- `thinning::thin_pass` meets its contract.
+-- `thinning::thin_pass` meets its contract. The invariant: the image is thinned by the first k masks of the house set. The measure is 8 less k.
 use mathlib.Core.Path.{_∙_, sym}
 use Prim.Native.Nat.{_-_, _≤_}
 use native.Mathlib.Omega.{arith}

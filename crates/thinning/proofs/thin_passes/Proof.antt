@@ -1,4 +1,6 @@
--- `thinning::thin_passes` meets its contract. The invariant: `Running`, that the image is what so many passes leave and has the points left. The measure is the points left, which a pass that removes none ends.
+-- `thinning::thin_passes` meets its contract.
+-- The invariant: `Running`, that the image is what so many passes leave and has the points left. The measure is the points left, which a pass that
+-- removes none ends.
 use mathlib.Core.Path.{_∙_, sym}
 use native.Mathlib.Omega.{arith}
 use denote.Ref.{now}

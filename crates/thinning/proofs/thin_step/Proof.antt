@@ -1,4 +1,4 @@
--- `thinning::thin_step` meets its contract.
+-- `thinning::thin_step` meets its contract. The hits taken out of the image are one thinning step.
 use mathlib.Core.Path.{_∙_, sym}
 use borrow.Author.Needs.{needs}
 use denote.Ref.{now}

@@ -1,4 +1,4 @@
--- `listing::answer::put_answer` meets its contract.
+-- `listing::answer::put_answer` meets its contract. Each answer has its text, and there is room for the one that it is.
 use mathlib.Core.Path.{sym}
 use denote.Ref.{now}
 use Rattle.listing.specs.Printed.{answerText}

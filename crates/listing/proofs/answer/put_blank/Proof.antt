@@ -1,4 +1,4 @@
--- `listing::answer::put_blank` meets its contract.
+-- `listing::answer::put_blank` meets its contract. The counts, the mark of no size and the map, one appended after the other.
 use mathlib.Core.Path.{refl}
 use denote.Ref.{now}
 use Rattle.listing.specs.Printed.{noSize}

@@ -1,4 +1,4 @@
--- `listing::answer::put_counts` meets its contract.
+-- `listing::answer::put_counts` meets its contract. The three numbers, one appended after the other.
 use mathlib.Core.Path.{refl}
 use Rattle.listing.proofs.AppendLaws.{appended-then, room-first, room-next}
 use Rattle.listing.specs.Text.{decimal}

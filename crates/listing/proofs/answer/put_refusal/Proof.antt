@@ -1,4 +1,4 @@
--- `listing::answer::put_refusal` meets its contract.
+-- `listing::answer::put_refusal` meets its contract. The word, the number and the line's end, one appended after the other.
 use mathlib.Core.Path.{refl}
 use Rattle.listing.proofs.AppendLaws.{appended-then, room-first, room-next}
 use Rattle.listing.proofs.AnswerLaws.{refusal-pieces}

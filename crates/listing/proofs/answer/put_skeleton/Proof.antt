@@ -1,4 +1,4 @@
--- `listing::answer::put_skeleton` meets its contract.
+-- `listing::answer::put_skeleton` meets its contract. The counts, the largest size and the map, one appended after the other.
 use mathlib.Core.Path.{refl}
 use denote.Ref.{now}
 use Rattle.listing.specs.Text.{decimal}

@@ -1,4 +1,4 @@
--- `listing::text::put_bytes` meets its contract.
+-- `listing::text::put_bytes` meets its contract. The invariant: the first i bytes are appended. The measure is what is left of the text.
 use Prim.Native.Nat.{_+_, _-_, _≤_}
 use native.Mathlib.Omega.{arith}
 use denote.Ref.{now}

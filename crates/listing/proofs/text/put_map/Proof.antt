@@ -1,4 +1,4 @@
--- `listing::text::put_map` meets its contract.
+-- `listing::text::put_map` meets its contract. The invariant: the text of the first y rows is appended. The measure is what is left of the rows.
 use mathlib.Core.Path.{_≡_, subst}
 use Prim.Native.Nat.{_*_, _+_, _-_, _≤_, ℕ}
 use native.Mathlib.Omega.{arith}

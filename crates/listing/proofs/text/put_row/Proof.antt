@@ -1,4 +1,4 @@
--- `listing::text::put_row` meets its contract.
+-- `listing::text::put_row` meets its contract. The invariant: the first i words are appended, with spaces between. The measure is what is left of the row.
 use mathlib.Core.Path.{_∙_}
 use Prim.Native.Nat.{_+_, _-_, _≤_}
 use native.Mathlib.Omega.{arith}

@@ -1,4 +1,4 @@
--- `listing::text::put_word` meets its contract.
+-- `listing::text::put_word` meets its contract. The first word is its digits; any other has a space before them.
 use mathlib.Core.List.{[], _∷_}
 use mathlib.Core.Path.{sym}
 use Rattle.listing.specs.Text.{decimal, space}

@@ -1,4 +1,4 @@
--- `minimal::bands::row_left` meets its contract.
+-- `minimal::bands::row_left` meets its contract. The invariant: the first j bytes are blank. The measure is `left` less j.
 use Prim.Native.Nat.{_+_, _-_, _≤_}
 use native.Mathlib.Omega.{arith}
 use denote.Ref.{now}

@@ -1,4 +1,4 @@
--- `minimal::bands::row_right` meets its contract.
+-- `minimal::bands::row_right` meets its contract. The invariant: the bytes from j on are blank. The measure is j.
 use Prim.Native.Nat.{_+_, _-_, _≤_}
 use native.Mathlib.Omega.{arith}
 use denote.Ref.{now}

@@ -1,4 +1,4 @@
--- `minimal::covers::bits_are_twice` meets its contract.
+-- `minimal::covers::bits_are_twice` meets its contract. The invariant: all tells of the first k pixels. The measure is 8 less k.
 use mathlib.Core.Path.{subst}
 use Prim.Native.Nat.{_+_, _-_, _≤_, ℕ}
 use native.Mathlib.Omega.{arith}

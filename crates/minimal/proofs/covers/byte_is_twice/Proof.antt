@@ -1,4 +1,4 @@
--- `minimal::covers::byte_is_twice` meets its contract.
+-- `minimal::covers::byte_is_twice` meets its contract. A blank byte asks nothing; a full one and any other are tested pixel by pixel.
 use mathlib.Core.Path.{subst, sym}
 use Prim.Native.Nat.{ℕ}
 use denote.Ref.{now}

@@ -1,4 +1,5 @@
 -- `minimal::covers::is_twice` meets its contract.
+-- The invariant: the pixels of the rows before y count two or more; those above the band are none. The measure is the band's end less y.
 use mathlib.Core.Path.{_≡_, refl}
 use Prim.Native.Nat.{_*_, _-_, _<_, _≤_}
 use native.Mathlib.Omega.{arith}

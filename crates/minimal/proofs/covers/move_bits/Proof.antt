@@ -1,4 +1,4 @@
--- `minimal::covers::move_bits` meets its contract.
+-- `minimal::covers::move_bits` meets its contract. The invariant: the counters of the first k pixels are moved. The measure is 8 less k.
 use Prim.Native.Nat.{_-_, _≤_}
 use native.Mathlib.Omega.{arith}
 use denote.Ref.{now}

@@ -1,4 +1,4 @@
--- `minimal::covers::move_byte` meets its contract.
+-- `minimal::covers::move_byte` meets its contract. A blank byte moves nothing; a full one and any other are moved pixel by pixel.
 use mathlib.Core.Path.{ap, subst, sym}
 use Prim.Native.Nat.{ℕ}
 use borrow.Author.Needs.{needs}

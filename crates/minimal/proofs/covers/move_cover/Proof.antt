@@ -1,4 +1,5 @@
 -- `minimal::covers::move_cover` meets its contract.
+-- The invariant: the counters of the rows before y are moved; those above the band are none. The measure is the band's end less y.
 use mathlib.Core.Path.{_≡_, refl}
 use Prim.Native.Nat.{_*_, _-_, _<_, _≤_}
 use native.Mathlib.Omega.{arith}

@@ -1,4 +1,5 @@
 -- `minimal::covers::move_row` meets its contract.
+-- The invariant: the counters of the pixels before byte j are moved; before `left` there are none. The measure is `right` less j.
 use mathlib.Core.Bool.{Bool}
 use mathlib.Core.Path.{fun-ext, subst}
 use Prim.Native.Nat.{_*_, _+_, _-_, _≤_, ℕ}

@@ -1,4 +1,5 @@
 -- `minimal::covers::row_is_twice` meets its contract.
+-- The invariant: the pixels before byte j count two or more; before `left` there are none. The measure is `right` less j.
 use mathlib.Core.Bool.{Bool}
 use mathlib.Core.Path.{fun-ext, subst}
 use Prim.Native.Nat.{_*_, _+_, _-_, _≤_, ℕ}

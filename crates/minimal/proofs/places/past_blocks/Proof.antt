@@ -1,4 +1,4 @@
--- `minimal::places::past_blocks` meets its contract.
+-- `minimal::places::past_blocks` meets its contract. The invariant: no place from `from` up to i has label v. The measure is what is left of the labels.
 use mathlib.Core.Path.{_∙_, sym}
 use Prim.Native.Nat.{_+_, _-_, _≤_}
 use native.Mathlib.Omega.{arith}

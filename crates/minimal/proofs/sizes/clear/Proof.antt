@@ -1,4 +1,4 @@
--- `minimal::sizes::clear` meets its contract.
+-- `minimal::sizes::clear` meets its contract. The invariant: the first i counters are 0, the others as they were. The measure is what is left of the counters.
 use mathlib.Core.List.{List, _++_, append-nil}
 use mathlib.Core.Path.{_∙_, _≡_, ap, refl}
 use Prim.Native.Nat.{_-_, _≤_, ℕ}

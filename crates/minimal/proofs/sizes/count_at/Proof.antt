@@ -1,4 +1,4 @@
--- `minimal::sizes::count_at` meets its contract.
+-- `minimal::sizes::count_at` meets its contract. Where the label is n + 1 the cover is counted, elsewhere nothing.
 use mathlib.Core.Bool.{true}
 use Prim.Native.Nat.{_*_, _+_}
 use native.Mathlib.Omega.{arith}

@@ -1,4 +1,5 @@
--- `minimal::sizes::count_size` meets its contract. The invariant: the covers of the points of size n before place i are counted. The measure is what is left of the labels.
+-- `minimal::sizes::count_size` meets its contract.
+-- The invariant: the covers of the points of size n before place i are counted. The measure is what is left of the labels.
 use mathlib.Core.Path.{_∙_, _≡_, refl, subst, sym}
 use Prim.Native.Nat.{_*_, _+_, _-_, _<_, _≤_, ℕ}
 use native.Mathlib.Omega.{arith}

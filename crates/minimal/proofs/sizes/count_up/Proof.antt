@@ -1,4 +1,5 @@
 -- `minimal::sizes::count_up` meets its contract.
+-- The invariant: the plane is what a point of size n at a covers, and the points of sizes below n are counted. The measure is top less n.
 use mathlib.Core.Path.{_∙_, ap, sym}
 use Prim.Native.Nat.{_-_, _≤_, ℕ}
 use native.Mathlib.Omega.{arith}

@@ -1,4 +1,4 @@
--- `minimal::sizes::mark` meets its contract.
+-- `minimal::sizes::mark` meets its contract. The one bit set in an emptied plane is the pixel of place a.
 use mathlib.Core.Path.{refl, sym}
 use Prim.Native.Nat.{_%_, _*_, _+_, _/_}
 use native.Mathlib.Omega.{arith}

@@ -1,4 +1,4 @@
--- `minimal::sizes::points_of` meets its contract.
+-- `minimal::sizes::points_of` meets its contract. The invariant: n is the number of points among the first i labels. The measure is what is left of the labels.
 use mathlib.Core.Bool.{not}
 use mathlib.Core.Path.{_∙_, _≡_, ap, ap₂, refl, sym}
 use Prim.Native.Nat.{_+_, _-_, _≤_, ℕ}

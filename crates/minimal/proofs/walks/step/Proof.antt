@@ -1,4 +1,4 @@
--- `minimal::walks::step` meets its contract.
+-- `minimal::walks::step` meets its contract. The point stays where it has another size, or where a place of its cover counts less than two; else it goes.
 use native.Mathlib.Omega.{arith}
 use borrow.Author.Needs.{needs}
 use borrow.Author.Tests.{not-false, not-true}

@@ -1,4 +1,5 @@
 -- `minimal::walks::walk` meets its contract.
+-- The invariant: the sizes below n are walked, the counters count the covers of the labels left, and the plane is what a point of size n at a covers. The measure is top less n.
 use mathlib.Core.Path.{_∙_, _≡_, ap, refl, sym}
 use Prim.Native.Nat.{_-_, _≤_}
 use native.Mathlib.Omega.{arith}

@@ -1,4 +1,5 @@
--- `minimal::walks::walk_size` meets its contract. The invariant: the places before i are walked, and the counters count the covers of the labels left. The measure is what is left of the labels.
+-- `minimal::walks::walk_size` meets its contract.
+-- The invariant: the places before i are walked, and the counters count the covers of the labels left. The measure is what is left of the labels.
 use mathlib.Core.Path.{_∙_, _≡_, ap, refl, sym}
 use Prim.Native.Nat.{_*_, _+_, _-_, _<_, _≤_, ℕ}
 use native.Mathlib.Omega.{arith}
