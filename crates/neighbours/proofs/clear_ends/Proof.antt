@@ -23,22 +23,21 @@ abbrev μ-loop : tie.MeasureT-loop
 abbrev start : tie.In-loop Inv-loop μ-loop → tie.Start Inv-loop μ-loop
 start c = c .before .before .before
 
+-- the row of a turn lies within the strip
+fits : (c : tie.In-loop Inv-loop μ-loop) → c .before .loop .y * start c .args .r + start c .args .r ≤ length (c .before .loop .strip)
+fits c =
+    let s = start c in
+    let a = s .args in
+    omega (arith, row-in (c .before .loop .y) (a .m) (a .r) (length (now (a .strip))) (c .loop-test .taken) (s .pre .2), c .before .loop .inv .1 .size)
+
 loop-holds : tie.Need-loop-holds Inv-loop μ-loop
 loop-holds c = let a = c .before .args in (omega arith, rows-none 0 (a .r) (now (a .strip)) (λ y x b. b && isWithin (a .r) (x + a .s)))
 
 mul-d : tie.Need-mul-d Inv-loop μ-loop
-mul-d c =
-    let at-loop = c .before in
-    let s = start c in
-    let a = s .args in
-    omega (arith, row-in (at-loop .loop .y) (a .m) (a .r) (length (now (a .strip))) (c .loop-test .taken) (s .pre .2), at-loop .loop .inv .1 .size)
+mul-d c = omega (arith, fits c)
 
 add-clear-end : tie.Need-add-clear-end Inv-loop μ-loop
-add-clear-end c =
-    let at-loop = c .before in
-    let s = start c in
-    let a = s .args in
-    omega (arith, row-in (at-loop .loop .y) (a .m) (a .r) (length (now (a .strip))) (c .loop-test .taken) (s .pre .2), at-loop .loop .inv .1 .size)
+add-clear-end c = omega (arith, fits c)
 
 sub-clear-end : tie.Need-sub-clear-end Inv-loop μ-loop
 sub-clear-end c = omega arith
@@ -47,21 +46,15 @@ part-clear-end-start : tie.Need-part-clear-end-start Inv-loop μ-loop
 part-clear-end-start c = omega arith
 
 part-clear-end-end : tie.Need-part-clear-end-end Inv-loop μ-loop
-part-clear-end-end c =
-    let at-loop = c .before in
-    let s = start c in
-    let a = s .args in
-    omega (arith, row-in (at-loop .loop .y) (a .m) (a .r) (length (now (a .strip))) (c .loop-test .taken) (s .pre .2), at-loop .loop .inv .1 .size)
+part-clear-end-end c = omega (arith, fits c)
 
 clear-end-requires : tie.Need-clear-end-requires Inv-loop μ-loop
 clear-end-requires c κs =
-    let at-loop = c .before .before in
-    let s = start (c .before) in
-    let a = s .args in
-    let l = at-loop .loop in
-    let d = l .y * a .r in
-    let i = row-in (l .y) (a .m) (a .r) (length (now (a .strip))) (c .before .loop-test .taken) (s .pre .2) in
-    let m = length-take-le (d + a .r - d) (drop d (l .strip)) (omega (arith, length-drop d (l .strip), i, l .inv .1 .size)) in
+    let in-loop = c .before in
+    let s = start in-loop in
+    let l = in-loop .before .loop in
+    let d = l .y * s .args .r in
+    let m = length-take-le (d + s .args .r - d) (drop d (l .strip)) (omega (arith, length-drop d (l .strip), fits in-loop)) in
     (s .pre .0, record { some = omega (arith, m, s .pre .1 .some); most = omega (arith, m, s .pre .1 .most) })
 
 add-y : tie.Need-add-y Inv-loop μ-loop
@@ -74,14 +67,11 @@ loop-again : tie.Need-loop-again Inv-loop μ-loop
 loop-again c =
     let at-clear-end = c .before .before in
     let in-loop = at-clear-end .before .before in
-    let at-loop = in-loop .before in
-    let s = start in-loop in
-    let a = s .args in
-    let l = at-loop .loop in
-    let d = l .y * a .r in
-    let i = row-in (l .y) (a .m) (a .r) (length (now (a .strip))) (in-loop .loop-test .taken) (s .pre .2) in (
+    let a = start in-loop .args in
+    let l = in-loop .before .loop in
+    let d = l .y * a .r in (
       omega arith,
-      rows-cleared (a .r) (l .y) (a .s) (d + a .r - d) (now (a .strip)) (l .strip) _ (omega arith) (omega (arith, i, l .inv .1 .size)) (l .inv .1)
+      rows-cleared (a .r) (l .y) (a .s) (d + a .r - d) (now (a .strip)) (l .strip) _ (omega arith) (fits in-loop) (l .inv .1)
           (at-clear-end .clear-end .ensures),
     )
 

@@ -24,6 +24,15 @@ abbrev μ-loop : tie.MeasureT-loop
 abbrev start : tie.At-loop Inv-loop μ-loop → tie.Start Inv-loop μ-loop
 start c = c .before .before .before
 
+-- the rows that a bit asks for lie within the strip
+fits : (c : tie.After-reflect Inv-loop μ-loop)
+    → let a = start (c .before .before) .args in c .reflect .result * a .r + length (now (a .dst)) ≤ length (now (a .strip))
+fits c =
+    let at-loop = c .before .before in
+    let s = start at-loop in
+    let a = s .args in
+    omega (arith, column-room (a .dilating) (at-loop .loop .k) (a .r) (c .reflect .result) (c .before .loop-test .taken) (c .reflect .ensures), s .pre .1)
+
 loop-holds : tie.Need-loop-holds Inv-loop μ-loop
 loop-holds c =
     let s = c .before .before in
@@ -34,32 +43,10 @@ reflect-requires : tie.Need-reflect-requires Inv-loop μ-loop
 reflect-requires c κs = omega arith
 
 mul-at : tie.Need-mul-at Inv-loop μ-loop
-mul-at c =
-    let at-loop = c .before .before in
-    let s = start at-loop in
-    let a = s .args in
-    let l = at-loop .loop in
-    omega (
-      arith,
-      column-room (a .dilating) (l .k) (a .r) (c .reflect .result) (c .before .loop-test .taken) (c .reflect .ensures),
-      s .pre .0,
-      s .pre .1,
-      l .inv .2 .size,
-    )
+mul-at c = omega (arith, fits c, c .before .before .loop .inv .2 .size)
 
 add-join-if : tie.Need-add-join-if Inv-loop μ-loop
-add-join-if c =
-    let at-loop = c .before .before in
-    let s = start at-loop in
-    let a = s .args in
-    let l = at-loop .loop in
-    omega (
-      arith,
-      column-room (a .dilating) (l .k) (a .r) (c .reflect .result) (c .before .loop-test .taken) (c .reflect .ensures),
-      s .pre .0,
-      s .pre .1,
-      l .inv .2 .size,
-    )
+add-join-if c = omega (arith, fits c, c .before .before .loop .inv .2 .size)
 
 sub-join-if : tie.Need-sub-join-if Inv-loop μ-loop
 sub-join-if c = omega arith
@@ -68,32 +55,17 @@ part-join-if-start : tie.Need-part-join-if-start Inv-loop μ-loop
 part-join-if-start c = omega arith
 
 part-join-if-end : tie.Need-part-join-if-end Inv-loop μ-loop
-part-join-if-end c =
-    let at-loop = c .before .before in
-    let s = start at-loop in
-    let a = s .args in
-    let l = at-loop .loop in
-    omega (
-      arith,
-      column-room (a .dilating) (l .k) (a .r) (c .reflect .result) (c .before .loop-test .taken) (c .reflect .ensures),
-      s .pre .0,
-      s .pre .1,
-      l .inv .2 .size,
-    )
+part-join-if-end c = omega (arith, fits c, c .before .before .loop .inv .2 .size)
 
 join-if-requires : tie.Need-join-if-requires Inv-loop μ-loop
 join-if-requires c κs =
     let at-reflect = c .before .before in
-    let in-loop = at-reflect .before in
-    let at-loop = in-loop .before in
-    let s = start at-loop in
-    let a = s .args in
-    let l = at-loop .loop in
+    let at-loop = at-reflect .before .before in
+    let a = start at-loop .args in
     let at = at-reflect .reflect .result * a .r in
     let n = length (now (a .dst)) in
-    let q = column-room (a .dilating) (l .k) (a .r) (at-reflect .reflect .result) (in-loop .loop-test .taken) (at-reflect .reflect .ensures) in
-    let m = length-take-le (at + n - at) (drop at (now (a .strip))) (omega (arith, length-drop at (now (a .strip)), q, s .pre .1)) in
-    omega (arith, m, l .inv .2 .size)
+    let m = length-take-le (at + n - at) (drop at (now (a .strip))) (omega (arith, length-drop at (now (a .strip)), fits at-reflect)) in
+    omega (arith, m, at-loop .loop .inv .2 .size)
 
 add-k : tie.Need-add-k Inv-loop μ-loop
 add-k c = omega arith

@@ -7,7 +7,7 @@ use borrow.Author.Tests.{not-false, not-true}
 use denote.Ref.{now}
 use Rattle.minimal.specs.Bands.{inkAt}
 use Rattle.minimal.specs.Moves.{Twice, below}
-use Rattle.minimal.proofs.BandLaws.{band-twice-last, band-twice-more, band-twice-part, band-twice-start, band-within, margins, room}
+use Rattle.minimal.proofs.BandLaws.{band-twice-last, band-twice-more, band-twice-part, band-twice-start, band-within, margins, Room, room}
 use Rattle.minimal.proofs.MoveLaws.{tells-no, tells-yes}
 use Rattle.minimal.proofs.covers.is_twice.Statement.{statement}
 use Rattle.minimal.proofs.covers.is_twice.Tie as tie
@@ -21,6 +21,16 @@ abbrev μ-loop : tie.MeasureT-loop
 
 abbrev start : tie.At-loop Inv-loop μ-loop → tie.Start Inv-loop μ-loop
 start c = c .before .before .before .before
+
+-- the row of a turn is one of the band's
+inside : (c : tie.In-loop Inv-loop μ-loop) → c .before .loop .y < start (c .before) .args .h - start (c .before) .args .band .under
+inside c = omega (arith, c .before .loop .inv .2, c .loop-test .taken)
+
+fits : (c : tie.In-loop Inv-loop μ-loop)
+    → let s = start (c .before) in Room (s .args .w) (s .args .h) (s .args .r) (s .args .band) (now (s .args .plane)) (s .pre .0) (c .before .loop .y)
+fits c =
+    let s = start (c .before) in
+    room (s .args .w) (s .args .h) (s .args .r) (s .args .band) (now (s .args .plane)) (s .pre .0) (c .before .loop .y) (inside c)
 
 sub-end : tie.Need-sub-end Inv-loop μ-loop
 sub-end c =
@@ -39,36 +49,21 @@ loop-holds c =
     )
 
 mul-row-is-twice : tie.Need-mul-row-is-twice Inv-loop μ-loop
-mul-row-is-twice c =
-    let at-loop = c .before in
-    let s = start at-loop in
-    let a = s .args in
-    let t = room (a .w) (a .h) (a .r) (a .band) (now (a .plane)) (s .pre .0) (at-loop .loop .y) (omega (arith, at-loop .loop .inv .2, c .loop-test .taken)) in
-    omega (arith, t .row)
+mul-row-is-twice c = omega (arith, fits c .row)
 
 mul-row-is-twice-2 : tie.Need-mul-row-is-twice-2 Inv-loop μ-loop
-mul-row-is-twice-2 c =
-    let at-loop = c .before in
-    let s = start at-loop in
-    let a = s .args in
-    let t = room (a .w) (a .h) (a .r) (a .band) (now (a .plane)) (s .pre .0) (at-loop .loop .y) (omega (arith, at-loop .loop .inv .2, c .loop-test .taken)) in
-    omega (arith, t .small)
+mul-row-is-twice-2 c = omega (arith, fits c .small)
 
 add-row-is-twice : tie.Need-add-row-is-twice Inv-loop μ-loop
-add-row-is-twice c =
-    let at-loop = c .before in
-    let s = start at-loop in
-    let a = s .args in
-    let t = room (a .w) (a .h) (a .r) (a .band) (now (a .plane)) (s .pre .0) (at-loop .loop .y) (omega (arith, at-loop .loop .inv .2, c .loop-test .taken)) in
-    omega (arith, t .small, s .pre .1)
+add-row-is-twice c = omega (arith, fits c .small, start (c .before) .pre .1)
 
 row-is-twice-requires : tie.Need-row-is-twice-requires Inv-loop μ-loop
 row-is-twice-requires c κs =
     let s = start (c .before) in
     let a = s .args in
     let l = c .before .loop in
-    let h : l .y < a .h - a .band .under = omega (arith, l .inv .2, c .loop-test .taken) in
-    let t = room (a .w) (a .h) (a .r) (a .band) (now (a .plane)) (s .pre .0) (l .y) h in (
+    let h = inside c in
+    let t = fits c in (
       record {
         near = omega (arith, t .small, s .pre .1);
         stride = t .narrow;

@@ -6,7 +6,7 @@ use native.Mathlib.Omega.{arith}
 use denote.Ref.{now}
 use Rattle.minimal.specs.Bands.{inkAt}
 use Rattle.minimal.specs.Moves.{Moved, below, hits}
-use Rattle.minimal.proofs.BandLaws.{band-last, band-more, band-open, band-start, margins, room}
+use Rattle.minimal.proofs.BandLaws.{band-last, band-more, band-open, band-start, margins, Room, room}
 use Rattle.minimal.proofs.covers.move_cover.Statement.{statement}
 use Rattle.minimal.proofs.covers.move_cover.Tie as tie
 
@@ -22,6 +22,16 @@ start c = c .before .before .before
 
 abbrev to-in-loop : tie.After-slice-known2 Inv-loop μ-loop → tie.In-loop Inv-loop μ-loop
 to-in-loop c = c .before .before .before .before
+
+-- the row of a turn is one of the band's
+inside : (c : tie.In-loop Inv-loop μ-loop) → c .before .loop .y < start (c .before .before) .args .h - start (c .before .before) .args .band .under
+inside c = omega (arith, c .before .loop .inv .2, c .loop-test .taken)
+
+fits : (c : tie.In-loop Inv-loop μ-loop)
+    → let s = start (c .before .before) in Room (s .args .w) (s .args .h) (s .args .r) (s .args .band) (now (s .args .plane)) (s .pre .0) (c .before .loop .y)
+fits c =
+    let s = start (c .before .before) in
+    room (s .args .w) (s .args .h) (s .args .r) (s .args .band) (now (s .args .plane)) (s .pre .0) (c .before .loop .y) (inside c)
 
 sub-end : tie.Need-sub-end Inv-loop μ-loop
 sub-end c =
@@ -40,28 +50,13 @@ loop-holds c =
     )
 
 mul-move-row : tie.Need-mul-move-row Inv-loop μ-loop
-mul-move-row c =
-    let at-loop = c .before in
-    let s = start (at-loop .before) in
-    let a = s .args in
-    let t = room (a .w) (a .h) (a .r) (a .band) (now (a .plane)) (s .pre .0) (at-loop .loop .y) (omega (arith, at-loop .loop .inv .2, c .loop-test .taken)) in
-    omega (arith, t .row)
+mul-move-row c = omega (arith, fits c .row)
 
 mul-move-row-2 : tie.Need-mul-move-row-2 Inv-loop μ-loop
-mul-move-row-2 c =
-    let at-loop = c .before in
-    let s = start (at-loop .before) in
-    let a = s .args in
-    let t = room (a .w) (a .h) (a .r) (a .band) (now (a .plane)) (s .pre .0) (at-loop .loop .y) (omega (arith, at-loop .loop .inv .2, c .loop-test .taken)) in
-    omega (arith, t .small)
+mul-move-row-2 c = omega (arith, fits c .small)
 
 add-move-row : tie.Need-add-move-row Inv-loop μ-loop
-add-move-row c =
-    let at-loop = c .before in
-    let s = start (at-loop .before) in
-    let a = s .args in
-    let t = room (a .w) (a .h) (a .r) (a .band) (now (a .plane)) (s .pre .0) (at-loop .loop .y) (omega (arith, at-loop .loop .inv .2, c .loop-test .taken)) in
-    omega (arith, t .small, s .pre .1)
+add-move-row c = omega (arith, fits c .small, start (c .before .before) .pre .1)
 
 move-row-requires : tie.Need-move-row-requires Inv-loop μ-loop
 move-row-requires c κs =
@@ -69,8 +64,8 @@ move-row-requires c κs =
     let s = start (at-loop .before) in
     let a = s .args in
     let l = at-loop .loop in
-    let h : l .y < a .h - a .band .under = omega (arith, l .inv .2, c .before .loop-test .taken) in
-    let t = room (a .w) (a .h) (a .r) (a .band) (now (a .plane)) (s .pre .0) (l .y) h in (
+    let h = inside (c .before) in
+    let t = fits (c .before) in (
       record {
         near = omega (arith, t .small, s .pre .1);
         stride = t .narrow;
