@@ -25,7 +25,7 @@ use Rattle.morphology.proofs.FrameLaws.{OnFrame}
 use Rattle.morphology.proofs.MinimalLaws.{Sub, minimal-covered, minimal-done, minimal-length, minimal-sub, own-pixel, set-sub, sub-label}
 use Rattle.morphology.proofs.MorphologyLaws.{set-ext, ⊆-of-eq}
 use Rattle.morphology.proofs.PlaneLaws.{pack-inj}
-use Rattle.morphology.proofs.RefusalLaws.{T-of-not, fits-plane, reconstruct-passes, three-out, unless-in}
+use Rattle.morphology.proofs.RefusalLaws.{T-of-not, fits-plane, lengths-out, reconstruct-passes, unless-in}
 
 module _ (W H e : ℕ) (sides : T (isSide W && isSide H)) (te : T (isElement e)) where
   abbrev B : List Point
@@ -98,6 +98,6 @@ pub shortening : (W H e : ℕ) (labels work counters : List ℕ) → minimised W
 shortening W H e labels work counters h =
     let a = minimised-accepted W H e labels work counters h in
     let c = a .clear in
-    let places = fits-plane (length labels) (W * H) (three-out (notPlaces W H labels) (shortWork W H work) (notPlaces W H counters) (c .1 .1 .0) .0) in
+    let places = fits-plane (length labels) (W * H) (lengths-out (notPlaces W H labels ∷ shortWork W H work ∷ notPlaces W H counters ∷ []) (c .1 .1 .0) .0) in
     subst (λ (k : List ℕ). Minimal W H e labels k) (sym (ap output (a .is)))
     (minimal-of W H e (T-of-not (isSide W && isSide H) (c .0)) (T-of-not (isElement e) (c .1 .0)) labels places (c .1 .1 .1 .0))

@@ -1,6 +1,6 @@
 -- A decomposition turn by turn.
 use mathlib.Core.Bool.{Bool, _&&_, cond, not}
-use mathlib.Core.List.{List, [], _++_, _∷_}
+use mathlib.Core.List.{List, _++_}
 use mathlib.Core.Path.{_∙_, _≡_, ap, ap₂, refl, subst, sym}
 use Prim.Native.Nat.{_*_, _+_, _<_, _≤_, max, suc, zero, ℕ}
 use native.Mathlib.Nat.{le-refl, mul-le-mul-right, suc-ne-zero, zero-add}
@@ -11,19 +11,13 @@ use lib.ListN.{drop, getD, getD-replicate, length, length-drop, replicate, take}
 use lib.Seq.{ext-getD, getD-drop, getD-take, length-take-le}
 use Rattle.morphology.specs.Element.{isElement, offsets}
 use Rattle.morphology.specs.Image.{imageSet, isClean, pack, planeBytes}
-use Rattle.morphology.specs.Labels.{area, maxLabel, place, pointsOf, raster}
+use Rattle.morphology.specs.Labels.{area, place, pointsOf, raster}
 use Rattle.morphology.specs.Lists.{countOf}
 use Rattle.morphology.specs.Morphology.{erode, opening, times}
 use Rattle.morphology.specs.Point.{Point}
-use Rattle.morphology.specs.Skeleton.{skeletonFunction, skeletonLabels, skeletonSubset}
+use Rattle.morphology.specs.Skeleton.{skeletonFunction, skeletonSubset}
 use Rattle.morphology.proofs.CountLaws.{count-le}
-use Rattle.morphology.proofs.DecomposeLaws.{eroded-on, function-turn, labels-none, points-turn, turns-lt, turns-outcome, turnsAnswer}
-use Rattle.morphology.proofs.RefusalLaws.{T-of-not, first-out, fits-plane, side-label, three-out, unless-in}
-use Rattle.refusals.proofs.SideLaws.{sides-frame, sides-of}
-use Rattle.morphology.specs.Answers.{Answer, outcome}
-use Rattle.morphology.specs.Operations.{cleared, decomposeRows, decomposed, labelled}
-use Rattle.morphology.specs.Refusals.{firstRefusal, notPlaces, notPlane, shortWork}
-use borrow.Author.Tests.{ltb-false}
+use Rattle.morphology.proofs.DecomposeLaws.{eroded-on, function-turn, labels-none, points-turn, turns-lt}
 use Rattle.morphology.proofs.LabelLaws.{getD-place, length-raster}
 use Rattle.morphology.proofs.MorphologyLaws.{eroded-suc, eroded-zero}
 use Rattle.morphology.proofs.PlaneLaws.{area-le, pack-empty, some-point}
@@ -36,7 +30,7 @@ use Rattle.raster.proofs.RowLaws.{row-in}
 use Rattle.raster.proofs.PartLaws.{PartIs, drop-overwrite, length-overwrite, part-overwrite}
 use Rattle.raster.specs.Frames.{Frame}
 use Rattle.raster.proofs.PackLaws.{frame-bytes}
-use Rattle.iteration.specs.Steps.{First, Ready, Sheet}
+use Rattle.iteration.specs.Steps.{First, Sheet}
 use Rattle.label_write.specs.Labelled.{Labelled, lacking}
 use Rattle.decomposition.specs.Bands.{Banded, EndRow, FirstRow}
 use Rattle.decomposition.specs.Turns.{Finished, Stepped, Took, Turned, Turns}
@@ -238,42 +232,3 @@ module _ {W H r p : ℕ} (e : ℕ) (sheet : Sheet W H r p) (el : T (isElement e)
 
 pub finished-as : {W H : ℕ} {B : List Point} {X Z : Point → Bool} {n : ℕ} {labels : List ℕ} {found : ℕ} → X ≡ Z → Finished W H B X n labels found → Finished W H B Z n labels found
 finished-as {W} {H} {B} {n = n} {labels = labels} {found = found} q f = subst (λ (S : Point → Bool). Finished W H B S n labels found) q f
-
-pub decompose-ready : (W H e : ℕ) (image labels work : List ℕ) → firstRefusal (decomposeRows W H e image labels work) ≡ 0
-    → Ready W H image image work × (W ≤ maxLabel) × (H ≤ maxLabel) × (length labels ≡ W * H) × T (isElement e)
-decompose-ready W H e image labels work z =
-    let P = planeBytes W H in
-    let r1 = first-out 1 _ _ tt z in
-    let r2 = first-out 2 _ _ tt (r1 .1) in
-    let r3 = first-out 3 _ _ tt (r2 .1) in
-    let r4 = first-out 4 _ _ tt (r3 .1) in
-    let l = three-out (notPlane W H image) (notPlaces W H labels) (shortWork W H work) (r3 .0) in
-    let s = sides-of W H (r1 .0) in (
-      record {
-        frame = sides-frame s;
-        image = fits-plane (length image) P (l .0);
-        out = fits-plane (length image) P (l .0);
-        work = ltb-false (length work) (3 * P) (l .2);
-        clean = T-of-not (isClean W H image) (r4 .0);
-      },
-      side-label W (s .across),
-      side-label H (s .down),
-      fits-plane (length labels) (W * H) (l .1),
-      T-of-not (isElement e) (r2 .0),
-    )
-
-pub finished-outcome : (W H e : ℕ) → T (isElement e) → (image labels₀ work labels work′ : List ℕ) (r n found : ℕ) (a : Answer) → r ≡ firstRefusal (decomposeRows W H e image labels₀ work) → r ≡ 0
-    → Finished W H (offsets e) (imageSet W H image) n labels found → work′ ≡ cleared W H work → a ≡ turnsAnswer n found
-    → outcome a (labels ∷ work′ ∷ []) ≡ decomposed W H e image labels₀ work
-unfolding decomposed
-finished-outcome W H e el image labels₀ work labels work′ r n found a q z f ew ea =
-    let X = imageSet W H image in
-    let B = offsets e in
-    sym (unless-in (firstRefusal (decomposeRows W H e image labels₀ work)) (labels₀ ∷ work ∷ []) (labelled W H (skeletonLabels W H B X) work) (sym q ∙ z)
-    ∙ turns-outcome W H B (element e el) X (image-on W H image) n work (λ k p g. let y = f .before k p in g (y .0) (y .1)) (f .gone)
-    ∙ ap₂ (λ (k : ℕ) (m : List ℕ). outcome (turnsAnswer n k) (m ∷ cleared W H work ∷ [])) (sym (f .points ∙ ap pointsOf (f .below))) (sym (f .below))
-    ∙ ap₂ (λ (b : Answer) (m : List ℕ). outcome b (labels ∷ m ∷ [])) (sym ea) (sym ew))
-
-pub some-turn : (n : ℕ) → (n ≡ 0 → ⊥) → 0 < n
-some-turn zero f = absurd (f refl)
-some-turn (suc n) f = omega arith

@@ -6,16 +6,17 @@ use Prim.Native.Nat.{_*_, _+_, _/_, _<_, _^_, _≤_, suc, zero, ℕ}
 use native.Mathlib.Nat.{le-refl, min-le-left, mul-le-mul-right}
 use native.Mathlib.Numerals.{add-one}
 use native.Mathlib.Omega.{arith}
-use borrow.Author.Tests.{eqb-true}
+use borrow.Author.Tests.{eqb-true, ltb-false}
 use lib.Dec.{T, eqb}
 use lib.ListN.{List·getD-append, drop, getD, length, length-append, length-drop, length-take, replicate, take}
 use lib.Seq.{drop-at, drop-drop, getD-take, length-take-le, take-at}
 use Rattle.morphology.specs.Element.{isElement, offsets}
 use Rattle.morphology.specs.Image.{clip, imageSet, isClean, onFrame, onesOf, pack, planeBytes, stride}
 use Rattle.morphology.specs.Lists.{someOf}
-use Rattle.morphology.specs.Morphology.{dilate, erode, opening, times}
+use Rattle.morphology.specs.Morphology.{dilate, erode, times}
 use Rattle.morphology.specs.Operations.{cleared}
 use Rattle.morphology.specs.Point.{Point}
+use Rattle.morphology.specs.Refusals.{notPlane, row4, shortWork}
 use Rattle.morphology.proofs.DecomposeLaws.{eroded-on}
 use Rattle.morphology.proofs.ElementLaws.{element}
 use Rattle.morphology.proofs.FoldTurns.{dilate-empty, eroded-stop, eroded-turn, opened-on}
@@ -23,7 +24,9 @@ use Rattle.morphology.proofs.FrameLaws.{OnFrame}
 use Rattle.morphology.proofs.ImageLaws.{Agree, clean-agree, clean-pack, clip-is, clip-on, image-agree, image-pack, length-pack, pack-image}
 use Rattle.morphology.proofs.MorphologyLaws.{dilate-sum, dilate-zero}
 use Rattle.morphology.proofs.PlaneLaws.{Empty, area-pack, empty-pack, pack-empty}
+use Rattle.morphology.proofs.RefusalLaws.{T-of-not, fits-plane}
 use Rattle.morphology.proofs.TestLaws.{and-r}
+use Rattle.raster.specs.Frames.{Frame}
 use Rattle.raster.specs.Rows.{overwrite}
 use Rattle.raster.proofs.PartLaws.{drop-overwrite}
 use Rattle.raster.proofs.PackLaws.{frame-bytes}
@@ -41,6 +44,9 @@ sheet-small {w} {h} {r} {p} s =
     let b = s .frame .row in
     let c = s .plane in
     omega (arith, mul-le-mul-right r (s .frame .down))
+
+pub frame-sheet : {w h r : ℕ} → Frame w h r → Sheet w h r (h * r)
+frame-sheet f = record { frame = f; plane = refl }
 
 -- ---- what the first plane holds
 
@@ -176,21 +182,33 @@ dilated-is W H B X (suc n) on =
     ap (λ (Z : Point → Bool). clip W H (dilate B Z)) (dilated-is W H B X n (λ i h. on i (omega arith)))
     ∙ ap (clip W H) (sym (dilate-sum (times B n) B X)) ∙ clip-is W H (dilate (times B (suc n)) X) (on (suc n) (le-refl (suc n)))
 
--- n dilations of X(n) are the opening
-pub opened-first : (W H p e n : ℕ) (el : T (isElement e)) (X : Point → Bool) (w u v : List ℕ) → p ≡ planeBytes W H → OnFrame W H X
-    → First W H p (erode (times (offsets e) n) X) w u → First W H p (dilated W H (offsets e) n (imageSet W H u)) u v
-    → First W H p (opening (times (offsets e) n) X) w v
-unfolding opening
-opened-first W H p e n el X w u v q on a b =
+-- X(n) dilated up to n times stays on the frame
+pub folded-first : (W H p e n m : ℕ) (el : T (isElement e)) (X : Point → Bool) (w u v : List ℕ) → m ≤ n → p ≡ planeBytes W H → OnFrame W H X
+    → First W H p (erode (times (offsets e) n) X) w u → First W H p (dilated W H (offsets e) m (imageSet W H u)) u v
+    → First W H p (dilate (times (offsets e) m) (erode (times (offsets e) n) X)) w v
+folded-first W H p e n m el X w u v h q on a b =
     let B = offsets e in
+    let k = element e el in
     let Y = erode (times B n) X in
-    first-next a (first-as (ap (pack W H) (ap (dilated W H B n) (first-image q (eroded-on W H B (element e el) X on n) a) ∙ dilated-is W H B Y n (opened-on W H B (element e el) X on n))) b)
+    let is = dilated-is W H B Y m (λ i l. opened-on W H B k X on n i (omega arith)) in
+    first-next a (first-as (ap (pack W H) (ap (dilated W H B m) (first-image q (eroded-on W H B k X on n) a) ∙ is)) b)
 
 -- ---- in and out
 
+-- by the tests of rows 3 and 4
+pub ready : (W H : ℕ) (image out work : List ℕ) → Frame W H ((W + 7) / 8) → notPlane W H image ≡ false → notPlane W H out ≡ false → shortWork W H work ≡ false
+    → row4 W H image .1 ≡ false → Ready W H image out work
+ready W H image out work f i o w c = record {
+  frame = f;
+  image = fits-plane (length image) (planeBytes W H) i;
+  out = fits-plane (length out) (planeBytes W H) o;
+  work = ltb-false (length work) (3 * planeBytes W H) w;
+  clean = T-of-not (isClean W H image) c;
+}
+
 -- an image that is ready, copied into the first plane
 pub ready-sheet : {W H : ℕ} {image out work : List ℕ} → Ready W H image out work → Sheet W H ((W + 7) / 8) (H * ((W + 7) / 8))
-ready-sheet d = record { frame = d .frame; plane = refl }
+ready-sheet d = frame-sheet (d .frame)
 
 pub record Loaded (W H : ℕ) (image work v : List ℕ) : Type 0 where
   pub size : length v ≡ length work

@@ -21,7 +21,7 @@ use Rattle.morphology.specs.Skeleton.{skeletonFunction, skeletonLabels}
 use Rattle.morphology.proofs.CountLaws.{count-le}
 use Rattle.morphology.proofs.DecomposeLaws.{greatest-raster}
 use Rattle.morphology.proofs.LabelLaws.{length-raster}
-use Rattle.morphology.proofs.RefusalLaws.{first-out, or-hit}
+use Rattle.morphology.proofs.RefusalLaws.{clear-out, or-hit}
 use Rattle.morphology.proofs.SkeletonLaws.{label-le}
 use Rattle.morphology.proofs.TestLaws.{and-l, and-r}
 use Rattle.refusals.proofs.SideLaws.{sides-of}
@@ -116,7 +116,7 @@ module _ (W H e : ℕ) (image : List ℕ) where
           (three-digits n (omega (arith, found-le))) (omega (arith, found-le))
 
       by : (r : ℕ) → firstRefusal rows ≡ r → length (outcomeText W H (unless r (labels ∷ work ∷ []) (labelled W H found work))) ≤ longest
-      by zero q = sized (sides-of W H (first-out 1 _ _ tt q .0) .wide) (greatest found) refl
+      by zero q = sized (sides-of W H (clear-out rows tt q .0) .wide) (greatest found) refl
       by (suc r) q = refusal-length (suc r) (omega (arith, first-le 4 rows tt))
 
   -- an image that is too long is refused, whatever its bytes are

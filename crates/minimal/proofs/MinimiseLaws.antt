@@ -1,86 +1,53 @@
 -- Minimisation whole: what the table of refusals lets pass, how it begins and ends, and the outcome.
-use mathlib.Core.Bool.{Bool, false}
 use mathlib.Core.List.{List, [], _++_, _∷_}
 use mathlib.Core.Path.{_∙_, _≡_, ap, ap₂, refl, subst, sym}
 use Prim.Native.Nat.{_*_, _+_, _/_, _<_, _≤_, zero-le, ℕ}
 use native.Mathlib.Nat.{mul-le-mul, mul-pos}
 use native.Mathlib.Omega.{arith}
 use borrow.Author.Tests.{ltb-false}
-use lib.Dec.{T}
 use lib.ListN.{drop, getD, length, replicate}
 use lib.Seq.{drop-drop}
 use Rattle.morphology.specs.Answers.{minimal, outcome, refused}
-use Rattle.morphology.specs.Element.{isElement, offsets}
+use Rattle.morphology.specs.Element.{offsets}
 use Rattle.morphology.specs.Image.{planeBytes}
 use Rattle.morphology.specs.Labels.{maxLabel, place, pointsOf}
 use Rattle.morphology.specs.Lists.{greatest}
 use Rattle.morphology.specs.Minimal.{minimalLabels}
 use Rattle.morphology.specs.Operations.{cleared, minimiseRows, minimised, shortens}
-use Rattle.morphology.specs.Refusals.{Row, firstRefusal, isWild, maxSide, notPlaces, row1, row2, row3, row5, shortWork, unless}
+use Rattle.morphology.specs.Refusals.{firstRefusal, maxSide, notPlaces, row5, shortWork}
 use Rattle.morphology.proofs.ElementLaws.{element}
 use Rattle.morphology.proofs.LabelLaws.{labelAt-place}
 use Rattle.morphology.proofs.ReconstructLaws.{kept-on}
-use Rattle.morphology.proofs.RefusalLaws.{T-of-not, first-out, fits-plane, three-out, unless-in, unless-refused}
-use Rattle.refusals.proofs.SideLaws.{sides-frame, sides-of}
-use Rattle.raster.specs.Limits.{maxFrame}
+use Rattle.morphology.proofs.RefusalLaws.{checked-refused, fits-plane, unless-in}
+use Rattle.refusals.proofs.SideLaws.{shaped, sides-frame}
 use Rattle.iteration.specs.Steps.{Sheet}
-use Rattle.iteration.proofs.StepLaws.{sheet-bytes}
+use Rattle.iteration.proofs.StepLaws.{frame-sheet, sheet-bytes}
 use Rattle.minimal.specs.Minimised.{Passed, Shortened}
 use Rattle.minimal.specs.Sizes.{Begun, Left, Tame}
 
 -- ---- the rows of a call
 
-module _ (W H e : ℕ) (m work c : List ℕ) where
-  -- rows 1, 2 and 3
-  abbrev pub shapeRows : List Row
-  shapeRows = row1 W H ∷ row2 e ∷ row3 (notPlaces W H m ∷ shortWork W H work ∷ notPlaces W H c ∷ []) ∷ []
-
-  pub shape-is : (x y z : Bool) (r : ℕ) → x ≡ notPlaces W H m → y ≡ shortWork W H work → z ≡ notPlaces W H c
-      → r ≡ firstRefusal (row1 W H ∷ row2 e ∷ row3 (x ∷ y ∷ z ∷ []) ∷ []) → r ≡ firstRefusal shapeRows
-  shape-is x y z r ex ey ez q =
-      q ∙ ap (λ (x : Bool). firstRefusal (row1 W H ∷ row2 e ∷ row3 (x ∷ y ∷ z ∷ []) ∷ [])) ex
-      ∙ ap₂ (λ (y z : Bool). firstRefusal (row1 W H ∷ row2 e ∷ row3 (notPlaces W H m ∷ y ∷ z ∷ []) ∷ [])) ey ez
-
-  -- what all rows let pass
-  passed-by : (rows : List Row) → firstRefusal (row1 W H ∷ row2 e ∷ row3 (notPlaces W H m ∷ shortWork W H work ∷ notPlaces W H c ∷ []) ∷ rows) ≡ 0
-      → (isWild W H (offsets e) 0 m ≡ false → Passed W H e m work c) × (firstRefusal rows ≡ 0)
-  passed-by rows z =
-      let r1 = first-out 1 _ _ tt z in
-      let r2 = first-out 2 _ _ tt (r1 .1) in
-      let r3 = first-out 3 _ _ tt (r2 .1) in
-      let l = three-out (notPlaces W H m) (shortWork W H work) (notPlaces W H c) (r3 .0) in
-      let s = sides-of W H (r1 .0) in (
-        λ f. record {
-          wide = s .wide;
-          across = s .across;
-          high = s .high;
-          down = s .down;
-          element = T-of-not (isElement e) (r2 .0);
-          places = fits-plane (length m) (W * H) (l .0);
-          planes = ltb-false (length work) (3 * planeBytes W H) (l .1);
-          counters = fits-plane (length c) (W * H) (l .2);
-          stays = f;
-        },
-        r3 .1,
-      )
-
-  -- and what rows 1, 2 and 3 let pass
-  pub shaped : firstRefusal shapeRows ≡ 0 → (W ≤ maxFrame) × (length m ≡ W * H) × T (isElement e)
-  shaped z =
-      let r1 = first-out 1 _ _ tt z in
-      let r2 = first-out 2 _ _ tt (r1 .1) in
-      let r3 = first-out 3 _ _ tt (r2 .1) in
-      let l = three-out (notPlaces W H m) (shortWork W H work) (notPlaces W H c) (r3 .0) in
-      (sides-frame (sides-of W H (r1 .0)) .across, fits-plane (length m) (W * H) (l .0), T-of-not (isElement e) (r2 .0))
-
-  pub passed : firstRefusal (minimiseRows W H e m work c) ≡ 0 → Passed W H e m work c
-  passed z = let s = passed-by (row5 W H (offsets e) 0 m ∷ []) z in s .0 (first-out 5 _ _ tt (s .1) .0)
+pub passed : (W H e : ℕ) (m work c : List ℕ) {r : ℕ} → r ≡ firstRefusal (minimiseRows W H e m work c) → r ≡ 0 → Passed W H e m work c
+passed W H e m work c q z =
+    let d = shaped W H e (notPlaces W H m ∷ shortWork W H work ∷ notPlaces W H c ∷ []) (row5 W H (offsets e) 0 m ∷ []) tt q z in
+    let l = d .lengths in
+    record {
+      wide = d .sides .wide;
+      across = d .sides .across;
+      high = d .sides .high;
+      down = d .sides .down;
+      element = d .element;
+      places = fits-plane (length m) (W * H) (l .0);
+      planes = ltb-false (length work) (3 * planeBytes W H) (l .1 .0);
+      counters = fits-plane (length c) (W * H) (l .1 .1 .0);
+      stays = d .rest .0;
+    }
 
 -- ---- how it begins
 
 module _ (W H e : ℕ) (m w c : List ℕ) (d : Passed W H e m w c) where
   pub passed-sheet : Sheet W H ((W + 7) / 8) (H * ((W + 7) / 8))
-  passed-sheet = record { frame = sides-frame (record { wide = d .wide; across = d .across; high = d .high; down = d .down }); plane = refl }
+  passed-sheet = frame-sheet (sides-frame (record { wide = d .wide; across = d .across; high = d .high; down = d .down }))
 
   pub passed-few : W * H ≤ maxSide * maxSide
   passed-few = mul-le-mul (d .across) (d .down)
@@ -130,8 +97,7 @@ module _ (W H e : ℕ) (m w c : List ℕ) (r : ℕ) (q : r ≡ firstRefusal (min
   pub minimise-refused : (r ≡ 0 → ⊥) → outcome (refused r) (m ∷ w ∷ c ∷ []) ≡ minimised W H e m w c
   unfolding minimised
   minimise-refused f =
-      let o = shortens W H (minimalLabels W H (offsets e) m) w in
-      sym (unless-refused r (m ∷ w ∷ c ∷ []) o f) ∙ ap (λ (k : ℕ). unless k (m ∷ w ∷ c ∷ []) o) q
+      checked-refused (minimiseRows W H e m w c) (m ∷ w ∷ c ∷ []) (shortens W H (minimalLabels W H (offsets e) m) w) r q f
 
   pub minimise-done : (n : ℕ) (m′ w′ c′ : List ℕ) → r ≡ 0 → Shortened W H e m w n m′ w′ c′ → outcome (minimal n) (m′ ∷ w′ ∷ c′ ∷ []) ≡ minimised W H e m w c
   unfolding minimised

@@ -14,7 +14,7 @@ use Rattle.morphology.specs.Image.{isClean, planeBytes}
 use Rattle.morphology.specs.Labels.{maxLabel}
 use Rattle.morphology.specs.Lists.{everyOf, someOf}
 use Rattle.morphology.specs.Operations.{decomposeRows, reconstructRows}
-use Rattle.morphology.specs.Refusals.{Row, firstRefusal, imageRows, isSide, isWild, maxSide, notPlane, row3, unless}
+use Rattle.morphology.specs.Refusals.{Row, checked, firstRefusal, imageRows, isSide, isWild, maxSide, notPlaces, notPlane, row3, shortWork, unless}
 use Rattle.morphology.proofs.TestLaws.{and-l, and-r}
 
 pub or-out-false : (a b : Bool) → (a || b) ≡ false → (a ≡ false) × (b ≡ false)
@@ -58,7 +58,7 @@ unfolding firstRefusal
 first-none = refl
 
 -- where none holds, neither the first nor another
-pub first-out : (n : ℕ) (t : Bool) (rows : List Row) → T (not (eqb n 0)) → firstRefusal ((n, t) ∷ rows) ≡ 0 → (t ≡ false) × (firstRefusal rows ≡ 0)
+first-out : (n : ℕ) (t : Bool) (rows : List Row) → T (not (eqb n 0)) → firstRefusal ((n, t) ∷ rows) ≡ 0 → (t ≡ false) × (firstRefusal rows ≡ 0)
 unfolding firstRefusal
 first-out n true rows h q = absurd (T-not (eqb n 0) h (subst (λ (m : ℕ). T (eqb m 0)) (sym q) tt))
 first-out n false rows h q = (refl, q)
@@ -131,6 +131,10 @@ pub unless-refused : (r : ℕ) (l : List (List ℕ)) (o : Outcome) → (r ≡ 0 
 unless-refused zero l o f = absurd (f refl)
 unless-refused (suc r) l o f = refl
 
+pub checked-refused : (rows : List Row) (lent : List (List ℕ)) (o : Outcome) (r : ℕ) → r ≡ firstRefusal rows → (r ≡ 0 → ⊥)
+    → outcome (refused r) lent ≡ checked rows lent o
+checked-refused rows lent o r q f = sym (unless-refused r lent o f) ∙ ap (λ (k : ℕ). unless k lent o) q
+
 -- ---- one row at a time
 
 pub plane-fits : (a b : ℕ) → a ≡ b → not (eqb a b) ≡ false
@@ -139,19 +143,19 @@ plane-fits a b e = ap not (eq-eqb a b e)
 pub fits-plane : (a b : ℕ) → not (eqb a b) ≡ false → a ≡ b
 fits-plane a b e = eqb-true a b (not-false (eqb a b) e)
 
--- row 3 of the lengths of a call: none is wrong
-pub lengths-one : (a : Bool) → a ≡ false → row3 (a ∷ []) .1 ≡ false
-lengths-one a p = or-in-false a false p refl
+-- no length of a call is wrong
+abbrev pub NoneWrong : List Bool → Type 0
+NoneWrong [] = Unit {0}
+NoneWrong (b ∷ wrong) = (b ≡ false) × NoneWrong wrong
 
-pub lengths-three : (a b c : Bool) → a ≡ false → b ≡ false → c ≡ false → row3 (a ∷ b ∷ c ∷ []) .1 ≡ false
-lengths-three a b c p q r = or-in-false a (b || (c || false)) p (or-in-false b (c || false) q (or-in-false c false r refl))
+-- that is what row 3 shows, and what is enough for it
+pub lengths-out : (wrong : List Bool) → row3 wrong .1 ≡ false → NoneWrong wrong
+lengths-out [] e = tt
+lengths-out (b ∷ wrong) e = let p = or-out-false b (someOf (λ t. t) wrong) e in (p .0, lengths-out wrong (p .1))
 
--- and what row 3 has then shown
-pub three-out : (a b c : Bool) → row3 (a ∷ b ∷ c ∷ []) .1 ≡ false → (a ≡ false) × (b ≡ false) × (c ≡ false)
-three-out a b c e =
-    let p = or-out-false a (b || (c || false)) e in
-    let q = or-out-false b (c || false) (p .1) in
-    (p .0, q .0, or-out-false c false (q .1) .0)
+pub lengths-in : (wrong : List Bool) → NoneWrong wrong → row3 wrong .1 ≡ false
+lengths-in [] f = refl
+lengths-in (b ∷ wrong) f = or-in-false b (someOf (λ t. t) wrong) (f .0) (lengths-in wrong (f .1))
 
 -- row 3 of three, joined as the code has it
 pub lengths-joined : (a b c : Bool) → (a || (b || c)) ≡ someOf (λ t. t) (a ∷ b ∷ c ∷ [])
@@ -182,20 +186,18 @@ pub record Good (W H : ℕ) (image : List ℕ) : Type 0 where
 
 pub good : (W H : ℕ) (image : List ℕ) → firstRefusal (imageRows W H image) ≡ 0 → Good W H image
 good W H image z =
-    let r1 = first-out 1 _ _ tt z in
-    let r3 = first-out 3 _ _ tt (r1 .1) in
-    let r4 = first-out 4 _ _ tt (r3 .1) in
+    let c = clear-out (imageRows W H image) tt z in
     record {
-      sides = T-of-not (isSide W && isSide H) (r1 .0);
-      size = fits-plane (length image) (planeBytes W H) (or-out-false (notPlane W H image) false (r3 .0) .0);
-      clean = T-of-not (isClean W H image) (r4 .0);
+      sides = T-of-not (isSide W && isSide H) (c .0);
+      size = fits-plane (length image) (planeBytes W H) (lengths-out (notPlane W H image ∷ []) (c .1 .0) .0);
+      clean = T-of-not (isClean W H image) (c .1 .1 .0);
     }
 
 pub image-passes : (W H : ℕ) (image : List ℕ) → Good W H image → firstRefusal (imageRows W H image) ≡ 0
 image-passes W H image g =
     first-clear (imageRows W H image) (
       not-T-false (isSide W && isSide H) (g .sides),
-      (lengths-one (notPlane W H image) (plane-fits (length image) (planeBytes W H) (g .size)), (not-T-false (isClean W H image) (g .clean), tt)),
+      (lengths-in (notPlane W H image ∷ []) (plane-fits (length image) (planeBytes W H) (g .size), tt), (not-T-false (isClean W H image) (g .clean), tt)),
     )
 
 -- ---- what is enough for a decomposition and a reconstruction
@@ -208,7 +210,8 @@ decompose-passes W H e image m w g el hm hw =
       (
         not-T-false (isElement e) el,
         (
-          lengths-three _ _ _ (plane-fits (length image) (planeBytes W H) (g .size)) (plane-fits (length m) (W * H) hm) (le-ltb (length w) (3 * planeBytes W H) hw),
+          lengths-in (notPlane W H image ∷ notPlaces W H m ∷ shortWork W H w ∷ [])
+              (plane-fits (length image) (planeBytes W H) (g .size), (plane-fits (length m) (W * H) hm, (le-ltb (length w) (3 * planeBytes W H) hw, tt))),
           (not-T-false (isClean W H image) (g .clean), tt),
         ),
       ),
@@ -223,7 +226,8 @@ reconstruct-passes W H e k m target w s el hm ht hw tame h =
       (
         not-T-false (isElement e) el,
         (
-          lengths-three _ _ _ (plane-fits (length m) (W * H) hm) (plane-fits (length target) (planeBytes W H) ht) (le-ltb (length w) (3 * planeBytes W H) hw),
+          lengths-in (notPlaces W H m ∷ notPlane W H target ∷ shortWork W H w ∷ [])
+              (plane-fits (length m) (W * H) hm, (plane-fits (length target) (planeBytes W H) ht, (le-ltb (length w) (3 * planeBytes W H) hw, tt))),
           (tame, (le-ltb maxSide k h, tt)),
         ),
       ),

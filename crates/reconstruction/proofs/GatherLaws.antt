@@ -1,16 +1,15 @@
 -- Labels reconstructed size by size.
 use mathlib.Core.Bool.{Bool, _&&_, _||_, cond, false, true}
-use mathlib.Core.List.{List, [], _++_, _∷_}
+use mathlib.Core.List.{List, _++_}
 use mathlib.Core.Path.{_∙_, _≡_, ap, ap₂, refl, subst, sym}
-use Prim.Native.Nat.{_*_, _+_, _-_, _/_, _<_, _≤_, max, suc, zero-le, ℕ}
+use Prim.Native.Nat.{_*_, _+_, _-_, _<_, _≤_, max, suc, zero-le, ℕ}
 use native.Mathlib.Nat.{le-refl}
 use native.Mathlib.Omega.{arith}
-use borrow.Author.Tests.{ltb-false}
 use lib.Dec.{T, eqb, ltb}
 use lib.IntN.{negsuc, pos, ℤ}
 use lib.ListN.{drop, getD, length, length-append, length-drop, length-replicate, replicate, take}
 use lib.Seq.{drop-at, drop-drop, getD-take, length-take-le, take-at}
-use Rattle.morphology.specs.Element.{isElement, offsets}
+use Rattle.morphology.specs.Element.{offsets}
 use Rattle.morphology.specs.Image.{imageSet, isClean, pack, planeBytes}
 use Rattle.morphology.specs.Labels.{labelAt}
 use Rattle.morphology.specs.Lists.{greatest}
@@ -24,16 +23,12 @@ use Rattle.morphology.proofs.ImageLaws.{Agree, clean-agree, image-agree, length
 use Rattle.morphology.proofs.MorphologyLaws.{dilate-zero}
 use Rattle.morphology.proofs.PlaneLaws.{pack-empty}
 use Rattle.morphology.proofs.ReconstructLaws.{dilated-suc, partial-top, reconstruction-on, union-at-on, union-dilated, union-on, union-turn}
-use Rattle.morphology.proofs.RefusalLaws.{T-of-not, first-out, fits-plane, three-out}
-use Rattle.morphology.specs.Operations.{reconstructRows}
-use Rattle.morphology.specs.Refusals.{Row, firstRefusal, notPlaces, notPlane, row1, row2, row3, row5, row7, shortWork}
-use Rattle.refusals.proofs.SideLaws.{Sides, sides-frame, sides-of}
 use Rattle.label_read.specs.Points.{withPoints}
 use Rattle.raster.specs.Rows.{overwrite}
 use Rattle.raster.proofs.PartLaws.{overwrite-all}
-use Rattle.iteration.specs.Steps.{First, Sheet, dilated}
+use Rattle.iteration.specs.Steps.{First, dilated}
 use Rattle.iteration.proofs.StepLaws.{dilated-is, first-as, first-clean, first-image, first-next}
-use Rattle.reconstruction.specs.Gathered.{Kept, Tame, gathered, grown}
+use Rattle.reconstruction.specs.Gathered.{Tame, gathered, grown}
 
 -- the largest label bounds them all
 label-greatest : (W H : ℕ) (m : List ℕ) (p : Point) → labelAt W H m p ≤ greatest m
@@ -159,58 +154,3 @@ emptied p work ys h e =
     let z : ys ≡ replicate p 0 = e ∙ ap (λ (n : ℕ). replicate n 0) (length-take-le p work h) in
     let l : length ys ≡ p = ap length z ∙ length-replicate {A = ℕ} p 0 in
     record { zeros = z; first = take-at ys (drop p work) p l ∙ z; size = length-append ys (drop p work) ∙ omega (arith, l, length-drop p work, h) }
-
-pub kept-sheet : {W H e k : ℕ} {m image work : List ℕ} → Kept W H e k m image work → Sheet W H ((W + 7) / 8) (H * ((W + 7) / 8))
-kept-sheet d = record { frame = d .frame; plane = refl }
-
--- ---- the rows of a call
-
-module _ (W H e : ℕ) (m image work : List ℕ) where
-  -- rows 1, 2 and 3
-  abbrev pub shapeRows : List Row
-  shapeRows = row1 W H ∷ row2 e ∷ row3 (notPlaces W H m ∷ notPlane W H image ∷ shortWork W H work ∷ []) ∷ []
-
-  pub shape-is : (a b c : Bool) (r : ℕ) → a ≡ notPlaces W H m → b ≡ notPlane W H image → c ≡ shortWork W H work
-      → r ≡ firstRefusal (row1 W H ∷ row2 e ∷ row3 (a ∷ b ∷ c ∷ []) ∷ []) → r ≡ firstRefusal shapeRows
-  shape-is a b c r ea eb ec q =
-      q ∙ ap (λ (a : Bool). firstRefusal (row1 W H ∷ row2 e ∷ row3 (a ∷ b ∷ c ∷ []) ∷ [])) ea
-      ∙ ap₂ (λ (b c : Bool). firstRefusal (row1 W H ∷ row2 e ∷ row3 (notPlaces W H m ∷ b ∷ c ∷ []) ∷ [])) eb ec
-
-  -- what they let pass
-  pub record Shaped : Type 0 where
-    pub sides : Sides W H
-    pub element : T (isElement e)
-    pub places : length m ≡ W * H
-    pub plane : length image ≡ planeBytes W H
-    pub planes : 3 * planeBytes W H ≤ length work
-
-  shaped-by : (rows : List Row) → firstRefusal (row1 W H ∷ row2 e ∷ row3 (notPlaces W H m ∷ notPlane W H image ∷ shortWork W H work ∷ []) ∷ rows) ≡ 0
-      → Shaped × (firstRefusal rows ≡ 0)
-  shaped-by rows z =
-      let r1 = first-out 1 _ _ tt z in
-      let r2 = first-out 2 _ _ tt (r1 .1) in
-      let r3 = first-out 3 _ _ tt (r2 .1) in
-      let l = three-out (notPlaces W H m) (notPlane W H image) (shortWork W H work) (r3 .0) in (
-        record {
-          sides = sides-of W H (r1 .0);
-          element = T-of-not (isElement e) (r2 .0);
-          places = fits-plane (length m) (W * H) (l .0);
-          plane = fits-plane (length image) (planeBytes W H) (l .1);
-          planes = ltb-false (length work) (3 * planeBytes W H) (l .2);
-        },
-        r3 .1,
-      )
-
-  pub shaped : firstRefusal shapeRows ≡ 0 → Shaped
-  shaped z = shaped-by [] z .0
-
-  pub kept-ready : (k : ℕ) → firstRefusal (reconstructRows W H e k m image work) ≡ 0 → Kept W H e k m image work
-  kept-ready k z =
-      let s = shaped-by (row5 W H (offsets e) k m ∷ row7 k ∷ []) z in
-      let d = s .0 in
-      record {
-        frame = sides-frame (d .sides);
-        labels = record { places = d .places; element = d .element; stays = first-out 5 _ _ tt (s .1) .0 };
-        image = d .plane;
-        work = d .planes;
-      }

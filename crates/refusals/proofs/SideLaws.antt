@@ -1,5 +1,6 @@
 -- The shared tests of the table of refusals, as the code has them.
 use mathlib.Core.Bool.{Bool, _&&_, false, not, true}
+use mathlib.Core.List.{List, _∷_}
 use mathlib.Core.Path.{_∙_, _≡_, ap, ap₂, refl, sym}
 use Prim.Native.Nat.{_%_, _*_, _+_, _-_, _/_, _<_, _^_, _≤_, suc, zero, ℕ}
 use native.Mathlib.Decide.{decLe}
@@ -7,14 +8,14 @@ use native.Mathlib.Nat.{mul-le-mul-right}
 use native.Mathlib.Omega.{arith}
 use borrow.Author.Tests.{eq-eqb, le-leb, le-ltb, lt-leb, lt-ltb, ne-eqb}
 use lib.Count.{ones}
-use lib.Dec.{leb, leb→le, ltb}
+use lib.Dec.{T, leb, leb→le, ltb}
 use lib.ListN.{length}
 use Rattle.morphology.specs.Element.{bit, isElement, offsets}
 use Rattle.morphology.specs.Image.{stride}
-use Rattle.morphology.specs.Refusals.{isSide, maxSide, row1, row2}
+use Rattle.morphology.specs.Refusals.{Row, firstRefusal, isSide, maxSide, row1, row2, row3}
 use Rattle.morphology.proofs.BitLaws.{odd}
 use Rattle.morphology.proofs.ElementLaws.{offsets-count}
-use Rattle.morphology.proofs.RefusalLaws.{T-of-not}
+use Rattle.morphology.proofs.RefusalLaws.{Clear, NoneWrong, T-of-not, clear-out, lengths-out, numbered}
 use Rattle.morphology.proofs.TestLaws.{and-l, and-r}
 use Rattle.raster.specs.Frames.{Frame}
 
@@ -58,6 +59,21 @@ sides-of w h e =
 pub sides-frame : {w h : ℕ} → Sides w h → Frame w h ((w + 7) / 8)
 unfolding stride
 sides-frame {w} {h} s = let a = s .across in let b = s .down in record { wide = s .wide; across = omega arith; down = omega arith; row = refl }
+
+-- ---- rows 1, 2 and 3
+
+-- what they show of a call that is not refused, by the tests of row 3, and the rows after them
+pub record Shaped (w h e : ℕ) (wrong : List Bool) (rows : List Row) : Type 0 where
+  pub sides : Sides w h
+  pub element : T (isElement e)
+  pub lengths : NoneWrong wrong
+  pub rest : Clear rows
+
+pub shaped : (w h e : ℕ) (wrong : List Bool) (rows : List Row) {r : ℕ} → T (numbered rows) → r ≡ firstRefusal (row1 w h ∷ row2 e ∷ row3 wrong ∷ rows) → r ≡ 0
+    → Shaped w h e wrong rows
+shaped w h e wrong rows t q z =
+    let c = clear-out (row1 w h ∷ row2 e ∷ row3 wrong ∷ rows) t (sym q ∙ z) in
+    record { sides = sides-of w h (c .0); element = T-of-not (isElement e) (c .1 .0); lengths = lengths-out wrong (c .1 .1 .0); rest = c .1 .1 .1 }
 
 -- ---- row 3, of any sides
 

@@ -1,11 +1,12 @@
 // Erosion and opening by n-fold elements, decomposition, reconstruction at a cut: public.
 ghost use mathlib.Core.Path.{_≡_};
 ghost use mathlib.Core.List.{[], _∷_};
+ghost use Prim.Native.Nat.{_≤_};
 ghost use lib.Dec.{T};
 ghost use Rattle.morphology.specs.Answers.{outcome};
 ghost use Rattle.morphology.specs.Element.{offsets, isElement};
 ghost use Rattle.morphology.specs.Image.{imageSet};
-ghost use Rattle.morphology.specs.Morphology.{erode as erodeSet, opening, times};
+ghost use Rattle.morphology.specs.Morphology.{erode as erodeSet, dilate as dilateSet, times};
 ghost use Rattle.morphology.specs.Operations.{eroded, opened, decomposed, reconstructed, foldRows, decomposeRows, reconstructRows};
 ghost use Rattle.morphology.specs.Refusals.{firstRefusal, notPlane, shortWork, row1, row2, row3, row4};
 ghost use Rattle.iteration.specs.Steps.{Wrote, Ready};
@@ -47,44 +48,26 @@ fn fold_refusal(w: u32, h: u32, element: u32, n: u32, image: &[u8], out: &[u8], 
     refusals::first(early, above)
 }
 
-// An image that is not refused, eroded n times into out.
-fn erode_into(
+// An image that is not refused, eroded, then dilated, into out.
+fn fold_into(
     w: usize,
     h: usize,
     element: u32,
-    n: u32,
+    erosions: u32,
+    dilations: u32,
     image: &[u8],
     out: &mut [u8],
     work: &mut [u8],
 ) -> u32
-    requires { ⌜ Ready w h (now image) (now out) (now work) × T (isElement element) ⌝ }
-    ensures { λ a. ⌜ Wrote w h (erodeSet (times (offsets element) n) (imageSet w h (now (image .entry)))) a (now (out .exit)) (now (work .entry)) (now (work .exit)) ⌝ }
+    requires { ⌜ Ready w h (now image) (now out) (now work) × T (isElement element) × (dilations ≤ erosions) ⌝ }
+    ensures { λ a. ⌜ Wrote w h (dilateSet (times (offsets element) dilations) (erodeSet (times (offsets element) erosions) (imageSet w h (now (image .entry))))) a
+        (now (out .exit)) (now (work .entry)) (now (work .exit)) ⌝ }
 {
     let r = (w + 7) / 8;
     let p = h * r;
     raster::copy(image, &mut work[..p]);
-    iteration::erode_times(w, h, r, p, element, n, work);
-    iteration::hand_out(p, out, work)
-}
-
-// An image that is not refused, opened by the n-fold element into out.
-fn open_into(
-    w: usize,
-    h: usize,
-    element: u32,
-    n: u32,
-    image: &[u8],
-    out: &mut [u8],
-    work: &mut [u8],
-) -> u32
-    requires { ⌜ Ready w h (now image) (now out) (now work) × T (isElement element) ⌝ }
-    ensures { λ a. ⌜ Wrote w h (opening (times (offsets element) n) (imageSet w h (now (image .entry)))) a (now (out .exit)) (now (work .entry)) (now (work .exit)) ⌝ }
-{
-    let r = (w + 7) / 8;
-    let p = h * r;
-    raster::copy(image, &mut work[..p]);
-    iteration::erode_times(w, h, r, p, element, n, work);
-    iteration::dilate_times(w, h, r, p, element, n, work);
+    iteration::erode_times(w, h, r, p, element, erosions, work);
+    iteration::dilate_times(w, h, r, p, element, dilations, work);
     iteration::hand_out(p, out, work)
 }
 
@@ -104,7 +87,7 @@ pub fn erode(
     if refusal != 0 {
         return Written::Refused(refusal);
     }
-    let area = erode_into(w as usize, h as usize, element, n, image, out, work);
+    let area = fold_into(w as usize, h as usize, element, n, 0, image, out, work);
     Written::Area(area)
 }
 
@@ -124,7 +107,7 @@ pub fn open(
     if number != 0 {
         return Written::Refused(number);
     }
-    let area = open_into(w as usize, h as usize, element, n, image, out, work);
+    let area = fold_into(w as usize, h as usize, element, n, n, image, out, work);
     Written::Area(area)
 }
 

@@ -15,9 +15,8 @@ use Rattle.morphology.specs.Thinning.{hit}
 use Rattle.morphology.proofs.FrameLaws.{OnFrame}
 use Rattle.morphology.proofs.ImageLaws.{image-on}
 use Rattle.morphology.proofs.PlaneLaws.{area-pack, on-sub}
-use Rattle.morphology.proofs.RefusalLaws.{unless-in}
+use Rattle.morphology.proofs.RefusalLaws.{checked-refused, unless-in}
 use Rattle.morphology.proofs.ThinningLaws.{hit-part}
-use Rattle.thinning.proofs.CallLaws.{call-refused}
 
 pub hit-on : (W H : ℕ) (m : ℕ × ℕ) → T (isMask m) → (X : Point → Bool) → OnFrame W H X → OnFrame W H (hit m X)
 hit-on W H m t X on = on-sub W H (hit m X) X (hit-part m t X) on
@@ -27,7 +26,7 @@ hit-on W H m t X on = on-sub W H (hit m X) X (hit-part m t X) on
 pub hit-refused : (W H : ℕ) (m : ℕ × ℕ) (image out : List ℕ) (r : ℕ) → r ≡ firstRefusal (hitRows W H m image out) → (r ≡ 0 → ⊥)
     → outcome (refused r) (out ∷ []) ≡ hitOrMiss W H m image out
 unfolding hitOrMiss
-hit-refused W H m image out r q f = call-refused (hitRows W H m image out) (out ∷ []) _ r q f
+hit-refused W H m image out r q f = checked-refused (hitRows W H m image out) (out ∷ []) _ r q f
 
 pub hit-outcome : (W H : ℕ) (m : ℕ × ℕ) (image out s : List ℕ) (n : ℕ) → T (isMask m) → firstRefusal (hitRows W H m image out) ≡ 0
     → s ≡ pack W H (hit m (imageSet W H image)) → n ≡ onesOf s → outcome (foreground n) (s ∷ []) ≡ hitOrMiss W H m image out

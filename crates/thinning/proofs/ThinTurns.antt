@@ -17,10 +17,9 @@ use Rattle.morphology.specs.Refusals.{firstRefusal}
 use Rattle.morphology.specs.Thinning.{Thinned, golayL, hit, thinPass, thinPasses, thinStep}
 use Rattle.morphology.proofs.ImageLaws.{image-on}
 use Rattle.morphology.proofs.PlaneLaws.{Plane, on-sub, plane-pack}
-use Rattle.morphology.proofs.RefusalLaws.{unless-in}
+use Rattle.morphology.proofs.RefusalLaws.{checked-refused, unless-in}
 use Rattle.morphology.proofs.TestLaws.{and-l}
 use Rattle.morphology.proofs.ThinningLaws.{ends, less, pass, passes-suc, points, thin-enough}
-use Rattle.thinning.proofs.CallLaws.{call-refused}
 
 module _ (W H : ℕ) where
   -- ---- a pass
@@ -110,7 +109,7 @@ module _ (W H : ℕ) where
   pub thin-refused : (image work : List ℕ) (r : ℕ) → r ≡ firstRefusal (thinRows W H image work) → (r ≡ 0 → ⊥)
       → outcome (refused r) (image ∷ work ∷ []) ≡ thin W H image work
   unfolding thin
-  thin-refused image work r q f = call-refused (thinRows W H image work) (image ∷ work ∷ []) _ r q f
+  thin-refused image work r q f = checked-refused (thinRows W H image work) (image ∷ work ∷ []) _ r q f
 
   -- from what the passes leave
   pub thin-outcome : (image work t : List ℕ) (n : ℕ) → firstRefusal (thinRows W H image work) ≡ 0

@@ -1,5 +1,4 @@
--- `minimal::minimise` meets its contract.
-use mathlib.Core.Path.{_∙_, sym}
+-- `minimal::minimise`: what is left of the labels is the outcome.
 use borrow.Author.Needs.{needs}
 use denote.Ref.{now}
 use Rattle.minimal.proofs.MinimiseLaws.{minimise-done, minimise-refused, passed}
@@ -25,8 +24,9 @@ returns c =
 
 minimise-into-requires : tie.Need-minimise-into-requires
 minimise-into-requires c κs =
-    let a = c .before .before .before .before .before .before .before .before .before .before .before .args in
-    passed (a .w) (a .h) (a .element) (now (a .labels)) (now (a .work)) (now (a .counters)) (sym (c .before .before .before .before .minimise-refusal .ensures) ∙ c .before .before .before .if1 .left)
+    let b = c .before .before .before in
+    let a = b .before .before .before .before .before .before .before .before .args in
+    passed (a .w) (a .h) (a .element) (now (a .labels)) (now (a .work)) (now (a .counters)) (b .before .minimise-refusal .ensures) (b .if1 .left)
 
 same-length-4 : tie.Need-same-length-4
 same-length-4 c = search needs
@@ -39,8 +39,11 @@ same-length-6 c = search needs
 
 returns-2 : tie.Need-returns-2
 returns-2 c =
-    let a = c .before .before .before .before .before .before .before .before .before .before .before .before .before .before .before .before .before .before .args in
-    minimise-done (a .w) (a .h) (a .element) (now (a .labels)) (now (a .work)) (now (a .counters)) _ (c .before .before .before .before .before .before .before .before .before .before .before .minimise-refusal .ensures) _ _ _ _ (c .before .before .before .before .before .before .before .before .before .before .if1 .left) (c .before .before .before .before .before .before .minimise-into .ensures)
+    let f = c .before .before .before .before .before .before in
+    let b = f .before .before .before .before in
+    let a = b .before .before .before .before .before .before .before .before .args in
+    minimise-done (a .w) (a .h) (a .element) (now (a .labels)) (now (a .work)) (now (a .counters)) _ (b .before .minimise-refusal .ensures) _ _ _ _ (b .if1 .left)
+    (f .minimise-into .ensures)
 
 pub minimise-spec : {M : Type 1} → statement M
 minimise-spec =

@@ -1,12 +1,10 @@
--- `minimal::minimise_refusal` meets its contract.
+-- `minimal::minimise_refusal`: rows 1, 2 and 3, and where they do not hold row 5.
 use mathlib.Core.List.{[], _∷_}
-use mathlib.Core.Path.{_∙_, sym}
 use borrow.Author.Needs.{needs}
 use denote.Ref.{now}
-use Rattle.morphology.specs.Element.{offsets}
-use Rattle.morphology.specs.Refusals.{row5}
-use Rattle.morphology.proofs.RefusalLaws.{first-passed, first-refused, first-row}
-use Rattle.minimal.proofs.MinimiseLaws.{shape-is, shaped, shapeRows}
+use Rattle.morphology.specs.Refusals.{notPlaces, shortWork}
+use Rattle.morphology.proofs.RefusalLaws.{first-passed, first-refused, first-row, fits-plane}
+use Rattle.refusals.proofs.SideLaws.{shaped, sides-frame}
 use Rattle.minimal.proofs.minimise_refusal.Statement.{statement}
 use Rattle.minimal.proofs.minimise_refusal.Tie as tie
 
@@ -24,25 +22,28 @@ shape-rows-requires c κs = search needs
 
 returns : tie.Need-returns
 returns c =
-    let a = c .before .before .before .before .before .before .before .before .args in
-    let e = shape-is (a .w) (a .h) (a .element) (now (a .labels)) (now (a .work)) (now (a .counters)) _ _ _ _ (c .before .before .before .before .not-places .ensures) (c .before .before .before .short-work .ensures) (c .before .before .not-counters .ensures) (c .before .shape-rows .ensures) in
-    first-refused (shapeRows (a .w) (a .h) (a .element) (now (a .labels)) (now (a .work)) (now (a .counters))) (row5 (a .w) (a .h) (offsets (a .element)) 0 (now (a .labels)) ∷ []) _ tt e (c .if1 .taken)
+    let s = c .before in
+    let e = rw (s .before .before .before .not-places .ensures, s .before .before .short-work .ensures, s .before .not-counters .ensures) at (s .shape-rows .ensures) in
+    first-refused (_ ∷ _ ∷ _ ∷ []) _ _ tt e (c .if1 .taken)
 
 is-wild-requires : tie.Need-is-wild-requires
 is-wild-requires c κs =
-    let a = c .before .before .before .before .before .before .before .before .args in
-    let e = shape-is (a .w) (a .h) (a .element) (now (a .labels)) (now (a .work)) (now (a .counters)) _ _ _ _ (c .before .before .before .before .not-places .ensures) (c .before .before .before .short-work .ensures) (c .before .before .not-counters .ensures) (c .before .shape-rows .ensures) in
-    shaped (a .w) (a .h) (a .element) (now (a .labels)) (now (a .work)) (now (a .counters)) (sym e ∙ c .if1 .left)
+    let s = c .before in
+    let a = s .before .before .before .before .before .before .before .args in
+    let e = rw (s .before .before .before .not-places .ensures, s .before .before .short-work .ensures, s .before .not-counters .ensures) at (s .shape-rows .ensures) in
+    let wrong = notPlaces (a .w) (a .h) (now (a .labels)) ∷ shortWork (a .w) (a .h) (now (a .work)) ∷ notPlaces (a .w) (a .h) (now (a .counters)) ∷ [] in
+    let d = shaped (a .w) (a .h) (a .element) wrong [] tt e (c .if1 .left) in
+    (sides-frame (d .sides) .across, fits-plane _ _ (d .lengths .0), d .element)
 
 row-requires : tie.Need-row-requires
 row-requires c κs = search needs
 
 returns-2 : tie.Need-returns-2
 returns-2 c =
-    let a = c .before .before .before .before .before .before .before .before .before .before .args in
-    let e = shape-is (a .w) (a .h) (a .element) (now (a .labels)) (now (a .work)) (now (a .counters)) _ _ _ _ (c .before .before .before .before .before .before .not-places .ensures) (c .before .before .before .before .before .short-work .ensures) (c .before .before .before .before .not-counters .ensures) (c .before .before .before .shape-rows .ensures) in
-    first-passed (shapeRows (a .w) (a .h) (a .element) (now (a .labels)) (now (a .work)) (now (a .counters))) (row5 (a .w) (a .h) (offsets (a .element)) 0 (now (a .labels)) ∷ []) _ _ tt e (c .before .before .if1 .left)
-    (first-row 5 (c .before .is-wild .ensures) (c .row .ensures))
+    let b = c .before .before in
+    let s = b .before in
+    let e = rw (s .before .before .before .not-places .ensures, s .before .before .short-work .ensures, s .before .not-counters .ensures) at (s .shape-rows .ensures) in
+    first-passed (_ ∷ _ ∷ _ ∷ []) (_ ∷ []) _ _ tt e (b .if1 .left) (first-row 5 (c .before .is-wild .ensures) (c .row .ensures))
 
 pub minimise-refusal-spec : {M : Type 1} → statement M
 minimise-refusal-spec =

@@ -8,8 +8,8 @@ use lib.ListN.{length-replicate, replicate}
 use lib.Seq.{length-take-le}
 use Rattle.morphology.specs.Element.{offsets}
 use Rattle.morphology.specs.Skeleton.{reconstruction}
-use Rattle.iteration.proofs.StepLaws.{sheet-bytes, sheet-small, wrote}
-use Rattle.reconstruction.proofs.GatherLaws.{emptied, gathered-cleans, gathered-dilated, kept-on, kept-sheet}
+use Rattle.iteration.proofs.StepLaws.{frame-sheet, sheet-bytes, sheet-small, wrote}
+use Rattle.reconstruction.proofs.GatherLaws.{emptied, gathered-cleans, gathered-dilated, kept-on}
 use Rattle.reconstruction.proofs.reconstruct_into.Statement.{statement}
 use Rattle.reconstruction.proofs.reconstruct_into.Tie as tie
 
@@ -19,7 +19,7 @@ add-r c = search needs
 mul-p : tie.Need-mul-p
 mul-p c =
     let s = c .before .before .before in
-    let k = kept-sheet (s .pre) in
+    let k = frame-sheet (s .pre .frame) in
     let p = s .args .h * ((s .args .w + 7) / 8) in
     omega (arith, sheet-small k)
 
@@ -27,13 +27,13 @@ slice-relend-prefix-fill : tie.Need-slice-relend-prefix-fill
 slice-relend-prefix-fill c =
     let s = c .before .before .before in
     let p = s .args .h * ((s .args .w + 7) / 8) in
-    omega (arith, s .pre .work, sheet-bytes (kept-sheet (s .pre)))
+    omega (arith, s .pre .work, sheet-bytes (frame-sheet (s .pre .frame)))
 
 slice-aggregate-fill : tie.Need-slice-aggregate-fill
 slice-aggregate-fill c =
     let s = c .before .before .before .before in
     let p = s .args .h * ((s .args .w + 7) / 8) in
-    sym (length-take-le p (now (s .args .work)) (omega (arith, s .pre .work, sheet-bytes (kept-sheet (s .pre)))))
+    sym (length-take-le p (now (s .args .work)) (omega (arith, s .pre .work, sheet-bytes (frame-sheet (s .pre .frame)))))
 
 fill-requires : tie.Need-fill-requires
 fill-requires c κs = search needs
@@ -43,19 +43,19 @@ gather-requires c κs =
     let s = c .before .before .before .before .before .before .before .before in
     let a = s .args in
     let p = a .h * ((a .w + 7) / 8) in
-    let q = sheet-bytes (kept-sheet (s .pre)) in
+    let q = sheet-bytes (frame-sheet (s .pre .frame)) in
     let v = emptied p (now (a .work)) _ (omega (arith, s .pre .work, q)) (c .before .before .before .fill .ensures) in
-    (kept-sheet (s .pre), omega (arith, v .size, s .pre .work, q), s .pre .labels, v .first)
+    (frame-sheet (s .pre .frame), omega (arith, v .size, s .pre .work, q), s .pre .labels, v .first)
 
 dilate-times-requires : tie.Need-dilate-times-requires
 dilate-times-requires c κs =
     let s = c .before .before .before .before .before .before .before .before .before .before .before .before in
     let a = s .args in
     let p = a .h * ((a .w + 7) / 8) in
-    let q = sheet-bytes (kept-sheet (s .pre)) in
+    let q = sheet-bytes (frame-sheet (s .pre .frame)) in
     let v = emptied p (now (a .work)) _ (omega (arith, s .pre .work, q)) (c .before .before .before .before .before .before .before .fill .ensures) in
     let g = c .before .before .before .gather .ensures in (
-      kept-sheet (s .pre),
+      frame-sheet (s .pre .frame),
       omega (arith, v .size, g .size, s .pre .work, q),
       gathered-cleans (a .w) (a .h) p (a .element) (a .cut) q (now (a .labels)) (s .pre .labels) _ _ g,
     )
@@ -65,9 +65,9 @@ hand-out-requires c κs =
     let s = c .before .before .before .before .before .before .before .before .before .before .before .before .before .before .before .before .before in
     let a = s .args in
     let p = a .h * ((a .w + 7) / 8) in
-    let q = sheet-bytes (kept-sheet (s .pre)) in
+    let q = sheet-bytes (frame-sheet (s .pre .frame)) in
     let v = emptied p (now (a .work)) _ (omega (arith, s .pre .work, q)) (c .before .before .before .before .before .before .before .before .before .before .before .before .fill .ensures) in
-    (omega (arith, v .size, c .before .before .before .before .before .before .before .before .gather .ensures .size, c .before .before .before .before .dilate-times .ensures .size, s .pre .work, q), s .pre .image ∙ sym q, sheet-small (kept-sheet (s .pre)))
+    (omega (arith, v .size, c .before .before .before .before .before .before .before .before .gather .ensures .size, c .before .before .before .before .dilate-times .ensures .size, s .pre .work, q), s .pre .image ∙ sym q, sheet-small (frame-sheet (s .pre .frame)))
 
 same-length : tie.Need-same-length
 same-length c = search needs
@@ -80,7 +80,7 @@ returns c =
     let s = c .before .before .before .before .before .before .before .before .before .before .before .before .before .before .before .before .before .before .before .before .before .before in
     let a = s .args in
     let p = a .h * ((a .w + 7) / 8) in
-    let q = sheet-bytes (kept-sheet (s .pre)) in
+    let q = sheet-bytes (frame-sheet (s .pre .frame)) in
     let v = emptied p (now (a .work)) _ (omega (arith, s .pre .work, q)) (c .before .before .before .before .before .before .before .before .before .before .before .before .before .before .before .before .before .fill .ensures) in
     let t = s .pre .labels in
     wrote (a .w) (a .h) p _ (reconstruction (a .w) (a .h) (offsets (a .element)) (a .cut) (now (a .labels))) (replicate p 0) (now (a .work)) _ _ _ _ q

@@ -1,8 +1,8 @@
--- `skeleton::image_refusal` meets its contract.
+-- `skeleton::image_refusal`: rows 1 and 2, and where they do not hold rows 3 and 4.
 use mathlib.Core.List.{[], _∷_}
 use mathlib.Core.Path.{_∙_, sym}
 use borrow.Author.Needs.{needs}
-use Rattle.morphology.proofs.RefusalLaws.{first-out, first-passed, first-refused}
+use Rattle.morphology.proofs.RefusalLaws.{clear-out, first-passed, first-refused}
 use Rattle.skeleton.proofs.image_refusal.Statement.{statement}
 use Rattle.skeleton.proofs.image_refusal.Tie as tie
 
@@ -16,7 +16,7 @@ short-work-requires : tie.Need-short-work-requires
 short-work-requires c κs = search needs
 
 image-rows-requires : tie.Need-image-rows-requires
-image-rows-requires c κs = first-out 1 _ _ tt (sym (c .before .before .sides-and-element .ensures) ∙ c .before .if1 .left) .0
+image-rows-requires c κs = clear-out (_ ∷ _ ∷ []) tt (sym (c .before .before .sides-and-element .ensures) ∙ c .before .if1 .left) .0
 
 returns-2 : tie.Need-returns-2
 returns-2 c = first-passed (_ ∷ _ ∷ []) _ _ _ tt (c .before .before .before .sides-and-element .ensures) (c .before .before .if1 .left) (rw (c .before .short-work .ensures) at (c .image-rows .ensures))

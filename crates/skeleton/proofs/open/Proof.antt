@@ -1,13 +1,15 @@
--- `skeleton::open` meets its contract.
+-- `skeleton::open`: a fold with as many dilations as erosions, which is the opening by definition.
 use mathlib.Core.List.{[], _∷_}
-use mathlib.Core.Path.{_∙_, sym}
+use native.Mathlib.Omega.{arith}
 use borrow.Author.Needs.{needs}
 use denote.Ref.{now}
 use Rattle.morphology.specs.Element.{offsets}
 use Rattle.morphology.specs.Image.{imageSet}
 use Rattle.morphology.specs.Morphology.{opening, times}
 use Rattle.morphology.specs.Operations.{foldRows, opened, writes}
-use Rattle.skeleton.proofs.FoldLaws.{checked-refused, fold-ready, writes-done}
+use Rattle.morphology.proofs.RefusalLaws.{checked-refused}
+use Rattle.skeleton.proofs.OutcomeLaws.{writes-done}
+use Rattle.skeleton.proofs.ReadyLaws.{fold-ready}
 use Rattle.skeleton.proofs.open.Statement.{statement}
 use Rattle.skeleton.proofs.open.Tie as tie
 
@@ -21,17 +23,19 @@ same-length-2 : tie.Need-same-length-2
 same-length-2 c = search needs
 
 returns : tie.Need-returns
-unfolding opened
+unfolding opened opening
 returns c =
     let a = c .before .before .before .before .before .before .before .args in
     checked-refused (foldRows (a .w) (a .h) (a .element) (a .n) (now (a .image)) (now (a .out)) (now (a .work))) (now (a .out) ∷ now (a .work) ∷ [])
     (writes (a .w) (a .h) (opening (times (offsets (a .element)) (a .n)) (imageSet (a .w) (a .h) (now (a .image)))) (now (a .work))) _
     (c .before .fold-refusal .ensures) (c .if1 .taken)
 
-open-into-requires : tie.Need-open-into-requires
-open-into-requires c κs =
-    let a = c .before .before .before .before .before .before .before .before .before .args in
-    fold-ready (a .w) (a .h) (a .element) (a .n) (now (a .image)) (now (a .out)) (now (a .work)) (sym (c .before .before .before .fold-refusal .ensures) ∙ c .before .before .if1 .left)
+fold-into-requires : tie.Need-fold-into-requires
+fold-into-requires c κs =
+    let b = c .before .before in
+    let a = b .before .before .before .before .before .before .before .args in
+    let d = fold-ready (a .w) (a .h) (a .element) (a .n) (now (a .image)) (now (a .out)) (now (a .work)) (b .before .fold-refusal .ensures) (b .if1 .left) in
+    (d .0, d .1, omega arith)
 
 same-length-3 : tie.Need-same-length-3
 same-length-3 c = search needs
@@ -40,11 +44,14 @@ same-length-4 : tie.Need-same-length-4
 same-length-4 c = search needs
 
 returns-2 : tie.Need-returns-2
-unfolding opened
+unfolding opened opening
 returns-2 c =
-    let a = c .before .before .before .before .before .before .before .before .before .before .before .before .before .before .args in
-    writes-done (foldRows (a .w) (a .h) (a .element) (a .n) (now (a .image)) (now (a .out)) (now (a .work))) (a .w) (a .h) (opening (times (offsets (a .element)) (a .n)) (imageSet (a .w) (a .h) (now (a .image)))) (now (a .out)) (now (a .work)) _ _ _ _
-    (c .before .before .before .before .before .before .before .before .fold-refusal .ensures) (c .before .before .before .before .before .before .before .if1 .left) (c .before .before .before .before .open-into .ensures)
+    let f = c .before .before .before .before in
+    let b = f .before .before .before in
+    let a = b .before .before .before .before .before .before .before .args in
+    writes-done (foldRows (a .w) (a .h) (a .element) (a .n) (now (a .image)) (now (a .out)) (now (a .work))) (a .w) (a .h)
+    (opening (times (offsets (a .element)) (a .n)) (imageSet (a .w) (a .h) (now (a .image)))) (now (a .out)) (now (a .work)) _ _ _ _
+    (b .before .fold-refusal .ensures) (b .if1 .left) (f .fold-into .ensures)
 
 pub open-spec : {M : Type 1} → statement M
 open-spec =
@@ -54,7 +61,7 @@ open-spec =
     same-length
     same-length-2
     returns
-    open-into-requires
+    fold-into-requires
     same-length-3
     same-length-4
     returns-2)

@@ -1,13 +1,10 @@
--- `skeleton::reconstruct_refusal` meets its contract.
+-- `skeleton::reconstruct_refusal`: rows 1, 2 and 3, and where they do not hold rows 5 and 7.
 use mathlib.Core.List.{[], _∷_}
-use mathlib.Core.Path.{_∙_, sym}
 use borrow.Author.Needs.{needs}
 use denote.Ref.{now}
-use Rattle.morphology.specs.Element.{offsets}
-use Rattle.morphology.specs.Refusals.{row5, row7}
-use Rattle.morphology.proofs.RefusalLaws.{first-both, first-passed, first-refused, first-row}
-use Rattle.refusals.proofs.SideLaws.{sides-frame}
-use Rattle.reconstruction.proofs.GatherLaws.{shape-is, shaped, shapeRows}
+use Rattle.morphology.specs.Refusals.{notPlaces, notPlane, shortWork}
+use Rattle.morphology.proofs.RefusalLaws.{first-both, first-passed, first-refused, first-row, fits-plane}
+use Rattle.refusals.proofs.SideLaws.{shaped, sides-frame}
 use Rattle.skeleton.proofs.reconstruct_refusal.Statement.{statement}
 use Rattle.skeleton.proofs.reconstruct_refusal.Tie as tie
 
@@ -25,16 +22,18 @@ shape-rows-requires c κs = search needs
 
 returns : tie.Need-returns
 returns c =
-    let a = c .before .before .before .before .before .before .before .before .args in
-    let e = shape-is (a .w) (a .h) (a .element) (now (a .labels)) (now (a .image)) (now (a .work)) _ _ _ _ (c .before .before .before .before .not-places .ensures) (c .before .before .before .not-plane .ensures) (c .before .before .short-work .ensures) (c .before .shape-rows .ensures) in
-    first-refused (shapeRows (a .w) (a .h) (a .element) (now (a .labels)) (now (a .image)) (now (a .work))) (row5 (a .w) (a .h) (offsets (a .element)) (a .cut) (now (a .labels)) ∷ row7 (a .cut) ∷ []) _ tt e (c .if1 .taken)
+    let s = c .before in
+    let e = rw (s .before .before .before .not-places .ensures, s .before .before .not-plane .ensures, s .before .short-work .ensures) at (s .shape-rows .ensures) in
+    first-refused (_ ∷ _ ∷ _ ∷ []) _ _ tt e (c .if1 .taken)
 
 is-wild-requires : tie.Need-is-wild-requires
 is-wild-requires c κs =
-    let a = c .before .before .before .before .before .before .before .before .args in
-    let e = shape-is (a .w) (a .h) (a .element) (now (a .labels)) (now (a .image)) (now (a .work)) _ _ _ _ (c .before .before .before .before .not-places .ensures) (c .before .before .before .not-plane .ensures) (c .before .before .short-work .ensures) (c .before .shape-rows .ensures) in
-    let d = shaped (a .w) (a .h) (a .element) (now (a .labels)) (now (a .image)) (now (a .work)) (sym e ∙ c .if1 .left) in
-    (sides-frame (d .sides) .across, d .places, d .element)
+    let s = c .before in
+    let a = s .before .before .before .before .before .before .before .args in
+    let e = rw (s .before .before .before .not-places .ensures, s .before .before .not-plane .ensures, s .before .short-work .ensures) at (s .shape-rows .ensures) in
+    let wrong = notPlaces (a .w) (a .h) (now (a .labels)) ∷ notPlane (a .w) (a .h) (now (a .image)) ∷ shortWork (a .w) (a .h) (now (a .work)) ∷ [] in
+    let d = shaped (a .w) (a .h) (a .element) wrong [] tt e (c .if1 .left) in
+    (sides-frame (d .sides) .across, fits-plane _ _ (d .lengths .0), d .element)
 
 row-requires : tie.Need-row-requires
 row-requires c κs = search needs
@@ -50,10 +49,12 @@ first-requires c κs = search needs
 
 returns-2 : tie.Need-returns-2
 returns-2 c =
-    let a = c .before .before .before .before .before .before .before .before .before .before .before .before .before .args in
-    let e = shape-is (a .w) (a .h) (a .element) (now (a .labels)) (now (a .image)) (now (a .work)) _ _ _ _ (c .before .before .before .before .before .before .before .before .before .not-places .ensures) (c .before .before .before .before .before .before .before .before .not-plane .ensures) (c .before .before .before .before .before .before .before .short-work .ensures) (c .before .before .before .before .before .before .shape-rows .ensures) in
-    first-passed (shapeRows (a .w) (a .h) (a .element) (now (a .labels)) (now (a .image)) (now (a .work))) (row5 (a .w) (a .h) (offsets (a .element)) (a .cut) (now (a .labels)) ∷ row7 (a .cut) ∷ []) _ _ tt e (c .before .before .before .before .before .if1 .left)
-    (first-both (_ ∷ []) (_ ∷ []) _ _ tt (first-row 5 (c .before .before .before .before .is-wild .ensures) (c .before .before .before .row .ensures)) (first-row 7 (c .before .before .above-max .ensures) (c .before .row2 .ensures)) (c .first .ensures))
+    let b = c .before .before .before .before .before in
+    let s = b .before in
+    let e = rw (s .before .before .before .not-places .ensures, s .before .before .not-plane .ensures, s .before .short-work .ensures) at (s .shape-rows .ensures) in
+    let wild = first-row 5 (c .before .before .before .before .is-wild .ensures) (c .before .before .before .row .ensures) in
+    let above = first-row 7 (c .before .before .above-max .ensures) (c .before .row2 .ensures) in
+    first-passed (_ ∷ _ ∷ _ ∷ []) (_ ∷ _ ∷ []) _ _ tt e (b .if1 .left) (first-both (_ ∷ []) (_ ∷ []) _ _ tt wild above (c .first .ensures))
 
 pub reconstruct-refusal-spec : {M : Type 1} → statement M
 reconstruct-refusal-spec =

@@ -1,4 +1,4 @@
--- `thinning::hit_or_miss` meets its contract.
+-- `thinning::hit_or_miss`: out holds what the mask hits, and its ones are the area.
 use mathlib.Core.Path.{_∙_, ap, sym}
 use native.Mathlib.Omega.{arith}
 use borrow.Author.Needs.{needs}
@@ -29,25 +29,30 @@ add-hit-plane c = search needs
 
 hit-plane-requires : tie.Need-hit-plane-requires
 hit-plane-requires c κs =
-    let a = c .before .before .before .before .before .before .args in
-    let d = hit-ready (a .w) (a .h) (a .fg) (a .bg) (now (a .image)) (now (a .out)) (sym (c .before .before .hit-refusal .ensures) ∙ c .before .if1 .left) in
+    let b = c .before in
+    let a = b .before .before .before .before .before .args in
+    let d = hit-ready (a .w) (a .h) (a .fg) (a .bg) (now (a .image)) (now (a .out)) (b .before .hit-refusal .ensures) (b .if1 .left) in
     (d .frame, d .image ∙ sym (frame-bytes (d .frame)), d .out ∙ sym (frame-bytes (d .frame)), d .mask, d .clean)
 
 count-ones-requires : tie.Need-count-ones-requires
 count-ones-requires c κs =
-    let a = c .before .before .before .before .before .before .before .before .before .before .args in
-    let d = hit-ready (a .w) (a .h) (a .fg) (a .bg) (now (a .image)) (now (a .out)) (sym (c .before .before .before .before .before .before .hit-refusal .ensures) ∙ c .before .before .before .before .before .if1 .left) in
-    omega (arith, d .small, ap length (c .before .before .before .hit-plane .ensures) ∙ length-pack (a .w) (a .h) (hit (a .fg, a .bg) (imageSet (a .w) (a .h) (now (a .image)))))
+    let p = c .before .before .before in
+    let b = p .before .before in
+    let a = b .before .before .before .before .before .args in
+    let d = hit-ready (a .w) (a .h) (a .fg) (a .bg) (now (a .image)) (now (a .out)) (b .before .hit-refusal .ensures) (b .if1 .left) in
+    omega (arith, d .small, ap length (p .hit-plane .ensures) ∙ length-pack (a .w) (a .h) (hit (a .fg, a .bg) (imageSet (a .w) (a .h) (now (a .image)))))
 
 same-length-2 : tie.Need-same-length-2
 same-length-2 c = search needs
 
 returns-2 : tie.Need-returns-2
 returns-2 c =
-    let a = c .before .before .before .before .before .before .before .before .before .before .before .args in
-    let z = sym (c .before .before .before .before .before .before .before .hit-refusal .ensures) ∙ c .before .before .before .before .before .before .if1 .left in
-    let d = hit-ready (a .w) (a .h) (a .fg) (a .bg) (now (a .image)) (now (a .out)) z in
-    hit-outcome (a .w) (a .h) (a .fg, a .bg) (now (a .image)) (now (a .out)) _ _ (d .mask) z (c .before .before .before .before .hit-plane .ensures) (c .count-ones .ensures)
+    let p = c .before .before .before .before in
+    let b = p .before .before in
+    let a = b .before .before .before .before .before .args in
+    let e = b .before .hit-refusal .ensures in
+    let d = hit-ready (a .w) (a .h) (a .fg) (a .bg) (now (a .image)) (now (a .out)) e (b .if1 .left) in
+    hit-outcome (a .w) (a .h) (a .fg, a .bg) (now (a .image)) (now (a .out)) _ _ (d .mask) (sym e ∙ b .if1 .left) (p .hit-plane .ensures) (c .count-ones .ensures)
 
 pub hit-or-miss-spec : {M : Type 1} → statement M
 hit-or-miss-spec =
