@@ -18,11 +18,9 @@ use Rattle.morphology.specs.Point.{Point}
 use Rattle.morphology.proofs.BandLaws.{InRows, area-moved, erode-moved, in-rows, moved, moved-on, open-moved, pack-moved, pack-outside, place-moved, place-outside}
 use Rattle.morphology.proofs.FrameLaws.{OnFrame}
 use Rattle.morphology.proofs.ImageLaws.{Agree, clean-agree, clean-pack, image-agree, image-on, image-pack, length-pack}
-use Rattle.morphology.proofs.MorphologyLaws.{_⊆_, erode-out}
-use Rattle.morphology.proofs.PointLaws.{unit}
+use Rattle.morphology.proofs.MorphologyLaws.{_⊆_, erode-sub}
 use Rattle.morphology.proofs.TestLaws.{and-l}
-use Rattle.planes.proofs.PlaneLaws.{origin-in}
-use Rattle.morphology.proofs.ElementLaws.{element-bit}
+use Rattle.morphology.proofs.ElementLaws.{element}
 use Rattle.raster.specs.Rows.{overwrite}
 use Rattle.raster.proofs.PartLaws.{PartIs, part-back, part-overwrite}
 use Rattle.raster.specs.Frames.{Frame}
@@ -91,7 +89,7 @@ labelled-back W H a n k v S old ys found hW fit ek len rows m = record {
 
 -- the origin is in the element
 pub eroded-sub : (e : ℕ) → T (isElement e) → (X : Point → Bool) → erode (offsets e) X ⊆ X
-eroded-sub e el X z t = subst (λ (y : Point). T (X y)) (unit z) (erode-out (offsets e) X z t (origin-in e (element-bit e el)))
+eroded-sub e el X = erode-sub (offsets e) X (element e el .centred)
 
 some-byte : {w h r : ℕ} → Frame w h r → 0 < stride w
 some-byte f = subst (λ (k : ℕ). 0 < k) (f .row) (frame-row f .2)

@@ -23,9 +23,8 @@ use Rattle.morphology.proofs.MorphologyLaws.{eroded-suc, eroded-zero}
 use Rattle.morphology.proofs.PlaneLaws.{area-le, pack-empty, some-point}
 use Rattle.morphology.proofs.ElementLaws.{element}
 use Rattle.morphology.proofs.FrameLaws.{OnFrame}
-use Rattle.morphology.proofs.ImageLaws.{Agree, image-agree, image-on, image-pack, length-pack}
+use Rattle.morphology.proofs.ImageLaws.{Agree, agree-front, image-agree, image-on, image-pack, length-pack}
 use Rattle.morphology.proofs.SkeletonLaws.{open-on}
-use Rattle.planes.proofs.PlaneLaws.{agree-front}
 use Rattle.raster.specs.Rows.{overwrite}
 use Rattle.raster.proofs.RowLaws.{row-in}
 use Rattle.raster.proofs.PartLaws.{PartIs, drop-overwrite, length-overwrite, part-overwrite}

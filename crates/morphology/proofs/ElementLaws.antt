@@ -129,9 +129,9 @@ pub element-bit : (e : ℕ) → T (isElement e) → T (bit e 12)
 unfolding isElement
 element-bit e t = and-l (bit e 12) (leb 2 (length (offsets e))) (and-r (ltb e (2 ^ 25)) (bit e 12 && leb 2 (length (offsets e))) t)
 
-element-origin : (e : ℕ) → T (isElement e) → List·Memᴰ origin (offsets e)
+pub origin-in : (e : ℕ) → T (bit e 12) → List·Memᴰ origin (offsets e)
 unfolding offsets offset origin
-element-origin e t = in-below 2 e 25 12 (lit< tt) (element-bit e t)
+origin-in e t = in-below 2 e 25 12 (lit< tt) t
 
 apart : (i : ℕ) → i < 25 → T (eqb i 12 || not (samePoint (offset 2 i) origin))
 unfolding samePoint sameInteger offset origin
@@ -179,4 +179,4 @@ pub record Element (B : List Point) : Type 0 where
   pub second : (b : Point) × List·Memᴰ b B × (b ≢ origin)
 
 pub element : (e : ℕ) → T (isElement e) → Element (offsets e)
-element e t = record { centred = element-origin e t; second = element-other e t }
+element e t = record { centred = origin-in e (element-bit e t); second = element-other e t }

@@ -1,6 +1,6 @@
 -- Images and sets: there and back.
 use mathlib.Core.Bool.{Bool, _&&_, cond, false, not, true}
-use mathlib.Core.List.{List, List·Memᴰ, List·Memᴰ·head, List·Memᴰ·not-nil, List·Memᴰ·tail}
+use mathlib.Core.List.{List, List·Memᴰ, List·Memᴰ·head, List·Memᴰ·not-nil, List·Memᴰ·tail, _++_}
 use mathlib.Core.Path.{_∙_, _≡_, ap, ap₂, fun-ext, refl, subst, sym}
 use Prim.Native.Nat.{_%_, _*_, _+_, _-_, _/_, _<_, _^_, _≤_, suc, zero, ℕ}
 use native.Mathlib.Decide.{decLt}
@@ -10,7 +10,7 @@ use borrow.Author.Tests.{le-ltb, lt-ltb}
 use lib.Arith.{digits-div, digits-lt, digits-mod}
 use lib.Dec.{T, T-not, eqb, ltb, ltb→lt, lt→ltb, not-T}
 use lib.IntN.{negsuc, pos, ℤ}
-use lib.ListN.{getD, length}
+use lib.ListN.{List·getD-append, getD, length}
 use lib.Pow.{areBytes, field, high, pow-add, pow-pos, shr-lt, split}
 use lib.Seq.{ext-getD}
 use Rattle.morphology.specs.Image.{bitOf, clip, fromBits, imageSet, inside, isClean, pack, pixel, planeBytes, stride}
@@ -253,6 +253,10 @@ clean-pack W H X on =
 -- two buffers with the same first P bytes
 abbrev pub Agree : ℕ → ℕ → List ℕ → List ℕ → Type 0
 Agree W H a b = (j : ℕ) → j < planeBytes W H → getD a j 0 ≡ getD b j 0
+
+-- a plane followed by anything
+pub agree-front : (W H : ℕ) (s t : List ℕ) → length s ≡ planeBytes W H → Agree W H (s ++ t) s
+agree-front W H s t e j h = List·getD-append s t 0 j (omega arith)
 
 pixel-agree : (W H : ℕ) (a b : List ℕ) → Agree W H a b → (x y : ℕ) → x / 8 < stride W → y < H → pixel W a x y ≡ pixel W b x y
 unfolding pixel

@@ -44,6 +44,10 @@ pub erode-out : (B : List Point) (X : Point → Bool) (z : Point) → T (erode B
 unfolding erode
 erode-out B X z t m = all-out (λ b. X (z ⊞ b)) t m
 
+-- with the origin in the element
+pub erode-sub : (B : List Point) (X : Point → Bool) → List·Memᴰ origin B → erode B X ⊆ X
+erode-sub B X m z t = subst (λ (y : Point). T (X y)) (unit z) (erode-out B X z t m)
+
 pub dilate-in : (B : List Point) (X : Point → Bool) (x b : Point) → T (X x) → List·Memᴰ b B → T (dilate B X (x ⊞ b))
 unfolding dilate
 dilate-in B X x b t m = any-in (λ c. X (x ⊞ b ⊞ minus c)) m (subst (λ (y : Point). T (X y)) (sym (back x b)) t)

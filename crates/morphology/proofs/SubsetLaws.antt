@@ -12,7 +12,7 @@ use Rattle.morphology.specs.Lists.{someOf}
 use Rattle.morphology.specs.Morphology.{erode, opening, times}
 use Rattle.morphology.specs.Point.{Point, _⊞_, origin, samePoint}
 use Rattle.morphology.specs.Skeleton.{pick, reconstruct, skeletonFunction, skeletonSubset, stamp}
-use Rattle.morphology.proofs.MorphologyLaws.{_⊆_, dilate-in, dilate-out, erode-out, erode-times, eroded-open, eroded-suc, eroded-zero, open-below, open-mono, open-sub, open-zero, set-ext, sum-in, times-suc, ⊆-of-eq}
+use Rattle.morphology.proofs.MorphologyLaws.{_⊆_, dilate-in, dilate-out, erode-sub, erode-times, eroded-open, eroded-suc, eroded-zero, open-below, open-mono, open-sub, open-zero, set-ext, sum-in, times-suc, ⊆-of-eq}
 use Rattle.morphology.proofs.PointLaws.{assoc, comm, same-eq, same-refl, unit}
 use Rattle.morphology.proofs.TestLaws.{and-in, and-l, and-r, any-in, any-out, decide}
 
@@ -66,9 +66,6 @@ module _ (B : List Point) (ob : List·Memᴰ origin B) where
   unfolding times
   origin-times zero = List·Memᴰ·head refl
   origin-times (suc n) = Memᴰ·cast (sym (unit origin)) (sum-in (times B n) B (origin-times n) ob)
-
-  erode-sub : (A : List Point) (X : Point → Bool) → List·Memᴰ origin A → erode A X ⊆ X
-  erode-sub A X m z t = subst (λ (y : Point). T (X y)) (unit z) (erode-out A X z t m)
 
   pub eroded-down : (X : Point → Bool) (n m : ℕ) → n ≤ m → erode (times B m) X ⊆ erode (times B n) X
   eroded-down X n m h z t =

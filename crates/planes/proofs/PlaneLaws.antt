@@ -1,24 +1,23 @@
 -- A plane eroded or dilated is the packed set.
 use mathlib.Core.Bool.{Bool, _&&_, false, true}
-use mathlib.Core.List.{List, List·Memᴰ, _++_}
-use mathlib.Core.Path.{_∙_, _≡_, ap, refl, subst, sym}
+use mathlib.Core.List.{List, _++_}
+use mathlib.Core.Path.{_∙_, _≡_, ap, refl, sym}
 use Prim.Native.Nat.{_*_, _+_, _-_, _<_, _≤_, ℕ}
 use native.Mathlib.Omega.{arith}
 use borrow.Author.Tests.{lt-ltb}
-use lib.Dec.{T, lit<, ltb}
+use lib.Dec.{T, ltb}
 use lib.IntN.{pos}
-use lib.ListN.{List·getD-append, drop, getD, length, length-drop, take}
+use lib.ListN.{drop, getD, length, length-drop, take}
 use lib.Seq.{take-all}
-use Rattle.morphology.specs.Element.{bit, offset, offsets}
-use Rattle.morphology.specs.Image.{clip, imageSet, isClean, pack, planeBytes}
+use Rattle.morphology.specs.Element.{bit, offsets}
+use Rattle.morphology.specs.Image.{clip, imageSet, isClean, pack}
 use Rattle.morphology.specs.Morphology.{dilate, erode, opening}
-use Rattle.morphology.specs.Point.{Point, at, origin}
-use Rattle.morphology.proofs.ElementLaws.{in-below}
+use Rattle.morphology.specs.Point.{Point, at}
+use Rattle.morphology.proofs.ElementLaws.{origin-in}
 use Rattle.morphology.proofs.FrameLaws.{OnFrame}
-use Rattle.morphology.proofs.ImageLaws.{Agree, clean-agree, clean-pack, clip-is, image-agree, image-on, image-pack, length-pack}
-use Rattle.morphology.proofs.MorphologyLaws.{erode-out, open-sub}
+use Rattle.morphology.proofs.ImageLaws.{Agree, agree-front, clean-agree, clean-pack, clip-is, image-agree, image-on, image-pack, length-pack}
+use Rattle.morphology.proofs.MorphologyLaws.{erode-sub, open-sub}
 use Rattle.morphology.proofs.PlaneLaws.{on-sub}
-use Rattle.morphology.proofs.PointLaws.{unit}
 use Rattle.raster.specs.Rows.{PlaneIs, overwrite}
 use Rattle.raster.proofs.PartLaws.{drop-overwrite, length-overwrite, overwrite-rest}
 use Rattle.raster.specs.Frames.{Frame}
@@ -29,13 +28,8 @@ use Rattle.planes.specs.Morphed.{morphed}
 
 -- ---- sets on the frame
 
-pub origin-in : (e : ℕ) → T (bit e 12) → List·Memᴰ origin (offsets e)
-unfolding offsets offset origin
-origin-in e t = in-below 2 e 25 12 (lit< tt) t
-
 pub erode-on : (W H e : ℕ) (X : Point → Bool) → T (bit e 12) → OnFrame W H X → OnFrame W H (erode (offsets e) X)
-erode-on W H e X o on =
-    on-sub W H (erode (offsets e) X) X (λ z t. subst (λ (y : Point). T (X y)) (unit z) (erode-out (offsets e) X z t (origin-in e o))) on
+erode-on W H e X o on = on-sub W H (erode (offsets e) X) X (erode-sub (offsets e) X (origin-in e o)) on
 
 -- ---- the plane at p
 
@@ -71,10 +65,6 @@ erosion-done W H r p e old new f hp h o clean bytes m =
     ∙ ap (λ (X : Point → Bool). overwrite p (pack W H X) old) (clip-is W H (erode (offsets e) S) (erode-on W H e S o (image-on W H old)))
 
 -- ---- an opening: the planes from the second on lent as one part
-
--- a plane followed by anything
-pub agree-front : (W H : ℕ) (s t : List ℕ) → length s ≡ planeBytes W H → Agree W H (s ++ t) s
-agree-front W H s t e j h = List·getD-append s t 0 j (omega arith)
 
 module _ (W H r p e : ℕ) (old v : List ℕ) (k : ℕ) (f : Frame W H r) (hp : H * r ≤ p) (h : p + p + H * r ≤ length old) (o : T (bit e 12))
     (ev : v ≡ overwrite p (pack W H (erode (offsets e) (imageSet W H old))) old) (ek : k ≡ length v - p) where
