@@ -30,7 +30,8 @@ fn list_within(
     work: &mut [u8],
     out: &mut [u8],
 ) -> usize
-    requires { ⌜ (now labels ≡ replicate (w * h) 0) × (now work ≡ replicate (3 * planeBytes w h) 0) × Room (outcomeText w h (taken w h element (now image))) 0 (now out) ⌝ }
+    requires { ⌜ (now labels ≡ replicate (w * h) 0) × (now work ≡ replicate (3 * planeBytes w h) 0)
+        × Room (outcomeText w h (taken w h element (now image))) 0 (now out) ⌝ }
     ensures { λ n. ⌜ Appended (outcomeText w h (taken w h element (now (image .entry)))) 0 n (now (out .entry)) (now (out .exit)) ⌝ }
 {
     let answer = skeleton::decompose(w, h, element, image, labels, work);

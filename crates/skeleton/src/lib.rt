@@ -1,4 +1,6 @@
 // Erosion and opening by n-fold elements, decomposition, reconstruction at a cut: public.
+pub use iteration::Written;
+use reconstruction::reconstruct_into;
 ghost use mathlib.Core.Path.{_≡_};
 ghost use mathlib.Core.List.{[], _∷_};
 ghost use Prim.Native.Nat.{_≤_};
@@ -10,14 +12,8 @@ ghost use Rattle.morphology.specs.Morphology.{erode as erodeSet, dilate as dila
 ghost use Rattle.morphology.specs.Operations.{eroded, opened, decomposed, reconstructed, foldRows, decomposeRows, reconstructRows};
 ghost use Rattle.morphology.specs.Refusals.{firstRefusal, notPlane, shortWork, row1, row2, row3, row4};
 ghost use Rattle.iteration.specs.Steps.{Wrote, Ready};
+ghost use Rattle.iteration.specs.Written.{answerOf};
 ghost use Rattle.skeleton.specs.Decomposed.{answerOf as decomposedAnswer};
-ghost use Rattle.skeleton.specs.Written.{answerOf};
-
-// The answer of an operation that writes an image.
-pub enum Written {
-    Refused(u8),
-    Area(u32),
-}
 
 // The answer of a decomposition; an empty image has no largest size.
 pub enum Decomposed {
@@ -28,7 +24,8 @@ pub enum Decomposed {
 
 // Rows 1 to 4 of a call that reads an image and has work and another buffer, whose length is wrong or not.
 fn image_refusal(w: u32, h: u32, element: u32, image: &[u8], other: bool, work: &[u8]) -> u8
-    ensures { λ r. ⌜ r ≡ firstRefusal (row1 w h ∷ row2 element ∷ row3 (notPlane w h (now (image .entry)) ∷ other ∷ shortWork w h (now (work .entry)) ∷ []) ∷ row4 w h (now (image .entry)) ∷ []) ⌝ }
+    ensures { λ r. ⌜ r ≡ firstRefusal (row1 w h ∷ row2 element ∷ row3 (notPlane w h (now (image .entry)) ∷ other ∷ shortWork w h (now (work .entry)) ∷ [])
+        ∷ row4 w h (now (image .entry)) ∷ []) ⌝ }
 {
     let numbers = refusals::sides_and_element(w, h, element);
     if numbers != 0 {
@@ -60,8 +57,8 @@ fn fold_into(
     work: &mut [u8],
 ) -> u32
     requires { ⌜ Ready w h (now image) (now out) (now work) × T (isElement element) × (dilations ≤ erosions) ⌝ }
-    ensures { λ a. ⌜ Wrote w h (dilateSet (times (offsets element) dilations) (erodeSet (times (offsets element) erosions) (imageSet w h (now (image .entry))))) a
-        (now (out .exit)) (now (work .entry)) (now (work .exit)) ⌝ }
+    ensures { λ a. ⌜ Wrote w h (dilateSet (times (offsets element) dilations) (erodeSet (times (offsets element) erosions) (imageSet w h (now (image .entry)))))
+        a (now (out .exit)) (now (work .entry)) (now (work .exit)) ⌝ }
 {
     let r = (w + 7) / 8;
     let p = h * r;
@@ -81,7 +78,8 @@ pub fn erode(
     out: &mut [u8],
     work: &mut [u8],
 ) -> Written
-    ensures { λ r. ⌜ outcome (answerOf r) (now (out .exit) ∷ now (work .exit) ∷ []) ≡ eroded w h element n (now (image .entry)) (now (out .entry)) (now (work .entry)) ⌝ }
+    ensures { λ r. ⌜ outcome (answerOf r) (now (out .exit) ∷ now (work .exit) ∷ [])
+        ≡ eroded w h element n (now (image .entry)) (now (out .entry)) (now (work .entry)) ⌝ }
 {
     let refusal = fold_refusal(w, h, element, n, image, &out[..], &work[..]);
     if refusal != 0 {
@@ -101,7 +99,8 @@ pub fn open(
     out: &mut [u8],
     work: &mut [u8],
 ) -> Written
-    ensures { λ r. ⌜ outcome (answerOf r) (now (out .exit) ∷ now (work .exit) ∷ []) ≡ opened w h element n (now (image .entry)) (now (out .entry)) (now (work .entry)) ⌝ }
+    ensures { λ r. ⌜ outcome (answerOf r) (now (out .exit) ∷ now (work .exit) ∷ [])
+        ≡ opened w h element n (now (image .entry)) (now (out .entry)) (now (work .entry)) ⌝ }
 {
     let number = fold_refusal(w, h, element, n, image, &out[..], &work[..]);
     if number != 0 {
@@ -128,7 +127,8 @@ pub fn decompose(
     labels: &mut [u8],
     work: &mut [u8],
 ) -> Decomposed
-    ensures { λ r. ⌜ outcome (decomposedAnswer r) (now (labels .exit) ∷ now (work .exit) ∷ []) ≡ decomposed w h element (now (image .entry)) (now (labels .entry)) (now (work .entry)) ⌝ }
+    ensures { λ r. ⌜ outcome (decomposedAnswer r) (now (labels .exit) ∷ now (work .exit) ∷ [])
+        ≡ decomposed w h element (now (image .entry)) (now (labels .entry)) (now (work .entry)) ⌝ }
 {
     let row = decompose_refusal(w, h, element, image, &labels[..], &work[..]);
     if row != 0 {
@@ -180,20 +180,13 @@ pub fn reconstruct(
     image: &mut [u8],
     work: &mut [u8],
 ) -> Written
-    ensures { λ r. ⌜ outcome (answerOf r) (now (image .exit) ∷ now (work .exit) ∷ []) ≡ reconstructed w h element cut (now (labels .entry)) (now (image .entry)) (now (work .entry)) ⌝ }
+    ensures { λ r. ⌜ outcome (answerOf r) (now (image .exit) ∷ now (work .exit) ∷ [])
+        ≡ reconstructed w h element cut (now (labels .entry)) (now (image .entry)) (now (work .entry)) ⌝ }
 {
     let no = reconstruct_refusal(w, h, element, cut, labels, &image[..], &work[..]);
     if no != 0 {
         return Written::Refused(no);
     }
-    let ink = reconstruction::reconstruct_into(
-        w as usize,
-        h as usize,
-        element,
-        cut,
-        labels,
-        image,
-        work,
-    );
+    let ink = reconstruct_into(w as usize, h as usize, element, cut, labels, image, work);
     Written::Area(ink)
 }
