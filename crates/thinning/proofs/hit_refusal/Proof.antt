@@ -1,4 +1,4 @@
--- `thinning::hit_refusal` meets its contract.
+-- `thinning::hit_refusal`: row 1, and where it does not hold rows 3, 4 and 6.
 use borrow.Author.Needs.{needs}
 use mathlib.Core.List.{[], _∷_}
 use mathlib.Core.Path.{_∙_, sym}
@@ -31,8 +31,11 @@ first-requires c κs = search needs
 
 returns-2 : tie.Need-returns-2
 returns-2 c =
-    first-both (_ ∷ _ ∷ []) (_ ∷ []) _ _ tt (rw (c .before .before .before .before .not-plane .ensures) at (c .before .before .before .image-rows .ensures)) (first-row 6 (c .before .before .bad-mask .ensures) (c .before .row .ensures)) (c .first .ensures)
-    ∙ sym (first-miss 1 _ _ (sym (c .before .before .before .before .before .before .bad-sides .ensures) ∙ c .before .before .before .before .before .if1 .left))
+    let l = c .before .before .before in
+    let b = l .before .before in
+    let mask = first-row 6 (c .before .before .bad-mask .ensures) (c .before .row .ensures) in
+    first-both (_ ∷ _ ∷ []) (_ ∷ []) _ _ tt (rw (l .before .not-plane .ensures) at (l .image-rows .ensures)) mask (c .first .ensures)
+    ∙ sym (first-miss 1 _ _ (sym (b .before .bad-sides .ensures) ∙ b .if1 .left))
 
 pub hit-refusal-spec : {M : Type 1} → statement M
 hit-refusal-spec =

@@ -1,4 +1,4 @@
--- `thinning::thin_refusal` meets its contract.
+-- `thinning::thin_refusal`: row 1, and where it does not hold rows 3 and 4.
 use borrow.Author.Needs.{needs}
 use mathlib.Core.Path.{_∙_, sym}
 use Rattle.morphology.proofs.RefusalLaws.{first-hit, first-miss}
@@ -21,7 +21,8 @@ image-rows-requires c κs =
 
 returns-2 : tie.Need-returns-2
 returns-2 c =
-    (rw (c .before .short-work .ensures) at (c .image-rows .ensures)) ∙ sym (first-miss 1 _ _ (sym (c .before .before .before .bad-sides .ensures) ∙ c .before .before .if1 .left))
+    let b = c .before .before in
+    (rw (c .before .short-work .ensures) at (c .image-rows .ensures)) ∙ sym (first-miss 1 _ _ (sym (b .before .bad-sides .ensures) ∙ b .if1 .left))
 
 pub thin-refusal-spec : {M : Type 1} → statement M
 thin-refusal-spec =
