@@ -3,21 +3,18 @@ use mathlib.Core.List.{List, [], _++_, _∷_}
 use mathlib.Core.Path.{_∙_, _≡_, ap, refl, sym}
 use Prim.Native.Nat.{_≤_, ℕ}
 use lib.ListN.{List·getD-eq-default}
+use Rattle.iteration.specs.Written.{answerOf as writtenAnswer}
+use Rattle.iteration.specs.declared.Written.{Written}
+use Rattle.iteration.specs.declared.Written.the-variants.{Area, Refused as NotWritten}
 use Rattle.minimal.specs.Minimised.{answerOf as minimisedAnswer}
 use Rattle.minimal.specs.declared.Minimised.{Minimised}
 use Rattle.minimal.specs.declared.Minimised.the-variants.{Points, Refused as NotMinimised}
 use Rattle.morphology.specs.Answers.{Answer, Outcome, outcome}
 use Rattle.morphology.specs.Operations.{thin}
 use Rattle.skeleton.specs.Decomposed.{answerOf as decomposedAnswer}
-use Rattle.skeleton.specs.Written.{answerOf as writtenAnswer}
 use Rattle.skeleton.specs.declared.Decomposed.{Decomposed}
 use Rattle.skeleton.specs.declared.Decomposed.the-variants.{Blank, Refused as NotDecomposed, Skeleton}
-use Rattle.skeleton.specs.declared.Written.{Written}
-use Rattle.skeleton.specs.declared.Written.the-variants.{Area, Refused as NotWritten}
-use Rattle.thinning.specs.Hit.{answerOf as hitAnswer}
 use Rattle.thinning.specs.Thinned.{answerOf as thinnedAnswer}
-use Rattle.thinning.specs.declared.Hit.{Hit}
-use Rattle.thinning.specs.declared.Hit.the-variants.{Area as HitArea, Refused as NotHit}
 use Rattle.thinning.specs.declared.Thinned.{Thinned}
 use Rattle.thinning.specs.declared.Thinned.the-variants.{Done, Refused as NotThinned}
 use Rattle.calls.specs.Called.{beside, called, operations}
@@ -41,10 +38,6 @@ decomposed-kept (Skeleton n s) = refl
 pub minimised-kept : (d : Minimised) → Kept (minimisedAnswer d)
 minimised-kept (NotMinimised n) = refl
 minimised-kept (Points n) = refl
-
-pub hit-kept : (d : Hit) → Kept (hitAnswer d)
-hit-kept (NotHit n) = refl
-hit-kept (HitArea n) = refl
 
 pub thinned-kept : (d : Thinned) → Kept (thinnedAnswer d)
 thinned-kept (NotThinned n) = refl

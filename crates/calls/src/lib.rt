@@ -6,15 +6,13 @@ pub use format::answer;
 use minimal::Minimised;
 use skeleton::Decomposed;
 use skeleton::Written;
-use thinning::Hit;
 use thinning::Thinned;
 ghost use mathlib.Core.Path.{_≡_};
 ghost use mathlib.Core.List.{[], _∷_};
 ghost use Rattle.morphology.specs.Answers.{answered, outcome, refused as refusedAnswer};
+ghost use Rattle.iteration.specs.Written.{answerOf as writtenAnswer};
 ghost use Rattle.minimal.specs.Minimised.{answerOf as minimisedAnswer};
 ghost use Rattle.skeleton.specs.Decomposed.{answerOf as decomposedAnswer};
-ghost use Rattle.skeleton.specs.Written.{answerOf as writtenAnswer};
-ghost use Rattle.thinning.specs.Hit.{answerOf as hitAnswer};
 ghost use Rattle.thinning.specs.Thinned.{answerOf as thinnedAnswer};
 ghost use Rattle.calls.specs.Called.{called};
 ghost use Rattle.calls.specs.Replies.{answerOf, replyOf};
@@ -55,7 +53,7 @@ fn one(v: u32) -> Reply
     }
 }
 
-// The answer of an erosion, an opening or a reconstruction.
+// The answer of an erosion, an opening, a reconstruction or hit-or-miss.
 fn of_written(a: Written) -> Reply
     ensures { λ r. ⌜ r ≡ replyOf (writtenAnswer a) ⌝ }
 {
@@ -89,16 +87,6 @@ fn of_minimised(a: Minimised) -> Reply
     match a {
         Minimised::Refused(n) => refused(n),
         Minimised::Points(n) => one(n),
-    }
-}
-
-// The answer of hit-or-miss.
-fn of_hit(a: Hit) -> Reply
-    ensures { λ r. ⌜ r ≡ replyOf (hitAnswer a) ⌝ }
-{
-    match a {
-        Hit::Refused(n) => refused(n),
-        Hit::Area(n) => one(n),
     }
 }
 
@@ -145,7 +133,7 @@ pub extern "C" fn call(
         2 => of_decomposed(skeleton::decompose(w, h, a, x, y, z)),
         3 => of_written(skeleton::reconstruct(w, h, a, b, x, y, z)),
         4 => of_minimised(minimal::minimise(w, h, a, y, z, c)),
-        5 => of_hit(thinning::hit_or_miss(w, h, a, b, x, y)),
+        5 => of_written(thinning::hit_or_miss(w, h, a, b, x, y)),
         _ => of_thinned(thinning::thin(w, h, y, z)),
     }
 }

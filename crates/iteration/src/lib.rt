@@ -9,6 +9,12 @@ ghost use Rattle.morphology.specs.Image.{imageSet, isClean, clip};
 ghost use Rattle.morphology.specs.Morphology.{erode as erodeSet, dilate as dilateSet, times};
 ghost use Rattle.iteration.specs.Steps.{Sheet, First, HandedOut, dilated};
 
+// The answer of an operation that writes an image.
+pub enum Written {
+    Refused(u8),
+    Area(u32),
+}
+
 // The first plane eroded in place, by way of the second.
 fn erode_step(w: usize, h: usize, r: usize, p: usize, element: u32, work: &mut [u8])
     requires { ⌜ Sheet w h r p × (2 * p ≤ length (now work)) × T (isElement element) × T (isClean w h (now work)) ⌝ }

@@ -45,7 +45,7 @@ passed W H e m work c q z =
 
 -- ---- how it begins
 
-module _ (W H e : ℕ) (m w c : List ℕ) (d : Passed W H e m w c) where
+module _ {W H e : ℕ} {m w c : List ℕ} (d : Passed W H e m w c) where
   pub passed-sheet : Sheet W H ((W + 7) / 8) (H * ((W + 7) / 8))
   passed-sheet = frame-sheet (sides-frame (record { wide = d .wide; across = d .across; high = d .high; down = d .down }))
 

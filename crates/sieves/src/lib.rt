@@ -5,7 +5,7 @@ ghost use mathlib.Core.List.{[], _∷_};
 ghost use mathlib.Core.Path.{_≡_};
 ghost use Rattle.morphology.specs.Answers.{outcome};
 ghost use Rattle.skeleton.specs.Decomposed.{answerOf as decomposedAnswer};
-ghost use Rattle.skeleton.specs.Written.{answerOf};
+ghost use Rattle.iteration.specs.Written.{answerOf};
 ghost use Rattle.sieves.specs.Ran.{sieveOutcome};
 
 // The number of the refusal; 0 if there is none.

@@ -1,4 +1,6 @@
 // Erosion and opening by n-fold elements, decomposition, reconstruction at a cut: public.
+pub use iteration::Written;
+use reconstruction::reconstruct_into;
 ghost use mathlib.Core.Path.{_≡_};
 ghost use mathlib.Core.List.{[], _∷_};
 ghost use Prim.Native.Nat.{_≤_};
@@ -10,14 +12,8 @@ ghost use Rattle.morphology.specs.Morphology.{erode as erodeSet, dilate as dila
 ghost use Rattle.morphology.specs.Operations.{eroded, opened, decomposed, reconstructed, foldRows, decomposeRows, reconstructRows};
 ghost use Rattle.morphology.specs.Refusals.{firstRefusal, notPlane, shortWork, row1, row2, row3, row4};
 ghost use Rattle.iteration.specs.Steps.{Wrote, Ready};
+ghost use Rattle.iteration.specs.Written.{answerOf};
 ghost use Rattle.skeleton.specs.Decomposed.{answerOf as decomposedAnswer};
-ghost use Rattle.skeleton.specs.Written.{answerOf};
-
-// The answer of an operation that writes an image.
-pub enum Written {
-    Refused(u8),
-    Area(u32),
-}
 
 // The answer of a decomposition; an empty image has no largest size.
 pub enum Decomposed {
@@ -192,14 +188,6 @@ pub fn reconstruct(
     if no != 0 {
         return Written::Refused(no);
     }
-    let ink = reconstruction::reconstruct_into(
-        w as usize,
-        h as usize,
-        element,
-        cut,
-        labels,
-        image,
-        work,
-    );
+    let ink = reconstruct_into(w as usize, h as usize, element, cut, labels, image, work);
     Written::Area(ink)
 }

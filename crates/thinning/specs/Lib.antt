@@ -1,4 +1,3 @@
 pub mod Hits
-pub mod Hit
 pub mod Passes
 pub mod Thinned

@@ -1,4 +1,5 @@
 // Hit-or-miss by one mask and thinning by the house set: public.
+pub use iteration::Written;
 ghost use mathlib.Core.Path.{_≡_};
 ghost use mathlib.Core.Bool.{false};
 ghost use mathlib.Core.List.{[], _∷_};
@@ -13,16 +14,10 @@ ghost use Rattle.morphology.specs.Refusals.{firstRefusal, row6};
 ghost use Rattle.morphology.specs.Thinning.{hit, golayL, thinStep, thinPass};
 ghost use Rattle.raster.specs.Frames.{Frame};
 ghost use Rattle.iteration.specs.Steps.{Sheet};
+ghost use Rattle.iteration.specs.Written.{answerOf};
 ghost use Rattle.thinning.specs.Hits.{widened};
 ghost use Rattle.thinning.specs.Passes.{Leaves, Ended};
-ghost use Rattle.thinning.specs.Hit.{answerOf};
 ghost use Rattle.thinning.specs.Thinned.{answerOf as thinnedAnswer};
-
-// The answer of hit-or-miss.
-pub enum Hit {
-    Refused(u8),
-    Area(u32),
-}
 
 // The answer of thinning: passes made with the idle one, points removed, area left.
 pub enum Thinned {
@@ -117,17 +112,17 @@ fn hit_refusal(w: u32, h: u32, fg: u32, bg: u32, image: &[u8], out: &[u8]) -> u8
 }
 
 // Hit-or-miss by one mask: the points of image that it hits, into out.
-pub fn hit_or_miss(w: u32, h: u32, fg: u32, bg: u32, image: &[u8], out: &mut [u8]) -> Hit
+pub fn hit_or_miss(w: u32, h: u32, fg: u32, bg: u32, image: &[u8], out: &mut [u8]) -> Written
     ensures { λ r. ⌜ outcome (answerOf r) (now (out .exit) ∷ []) ≡ hitOrMiss w h (fg, bg) (now (image .entry)) (now (out .entry)) ⌝ }
 {
     let refusal = hit_refusal(w, h, fg, bg, image, &out[..]);
     if refusal != 0 {
-        return Hit::Refused(refusal);
+        return Written::Refused(refusal);
     }
     let wide = w as usize;
     hit_plane(wide, h as usize, (wide + 7) / 8, fg, bg, image, out);
     let area = raster::count_ones(&out[..]);
-    Hit::Area(area)
+    Written::Area(area)
 }
 
 // A step of thinning: all points that a mask hits are removed at once. The hits stand in the first plane of work.
@@ -197,7 +192,8 @@ fn thin_refusal(w: u32, h: u32, image: &[u8], work: &[u8]) -> u8
 
 // Thinning by the house set: the image in place.
 pub fn thin(w: u32, h: u32, image: &mut [u8], work: &mut [u8]) -> Thinned
-    ensures { λ r. ⌜ outcome (thinnedAnswer r) (now (image .exit) ∷ now (work .exit) ∷ []) ≡ thinWhole w h (now (image .entry)) (now (work .entry)) ⌝ }
+    ensures { λ r. ⌜ outcome (thinnedAnswer r) (now (image .exit) ∷ now (work .exit) ∷ [])
+        ≡ thinWhole w h (now (image .entry)) (now (work .entry)) ⌝ }
 {
     let row = thin_refusal(w, h, &image[..], &work[..]);
     if row != 0 {

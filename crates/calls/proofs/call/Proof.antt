@@ -3,7 +3,7 @@ use mathlib.Core.List.{[], _∷_}
 use native.Mathlib.Omega.{arith}
 use denote.Ref.{now}
 use Rattle.calls.specs.Called.{called}
-use Rattle.calls.proofs.CallLaws.{called-as, called-thin, decomposed-kept, hit-kept, minimised-kept, owed, owed-beside, thinned-kept, written-kept}
+use Rattle.calls.proofs.CallLaws.{called-as, called-thin, decomposed-kept, minimised-kept, owed, owed-beside, thinned-kept, written-kept}
 use borrow.Author.Needs.{needs}
 use Rattle.calls.proofs.call.Statement.{statement}
 use Rattle.calls.proofs.call.Tie as tie
@@ -41,8 +41,8 @@ of-minimised-requires c κs = search needs
 hit-or-miss-requires : tie.Need-hit-or-miss-requires
 hit-or-miss-requires c κs = search needs
 
-of-hit-requires : tie.Need-of-hit-requires
-of-hit-requires c κs = search needs
+of-written-requires-4 : tie.Need-of-written-requires-4
+of-written-requires-4 c κs = search needs
 
 thin-requires : tie.Need-thin-requires
 thin-requires c κs = search needs
@@ -137,7 +137,7 @@ returns-6 c =
     let o = c .before .before .before in
     let m = o .before .before in
     let a = m .before .before .before .before .before .args in
-    owed-beside (_ ∷ []) (_ ∷ _ ∷ []) (hit-kept (o .hit-or-miss .result)) (c .of-hit .ensures) (o .hit-or-miss .ensures)
+    owed-beside (_ ∷ []) (_ ∷ _ ∷ []) (written-kept (o .hit-or-miss .result)) (c .of-written4 .ensures) (o .hit-or-miss .ensures)
     (called-as (a .w) (a .h) (a .a) (a .b) (now (a .x)) (now (a .y)) (now (a .z)) (now (a .c)) 5 (m .match .keys6))
 
 same-length-13 : tie.Need-same-length-13
@@ -169,7 +169,7 @@ call-spec =
     minimise-requires
     of-minimised-requires
     hit-or-miss-requires
-    of-hit-requires
+    of-written-requires-4
     thin-requires
     of-thinned-requires
     same-length

@@ -1,7 +1,7 @@
 -- `calls::of_written` meets its contract, by cases of the enum.
 use mathlib.Core.Path.{_∙_, ap, sym}
-use Rattle.skeleton.specs.Written.{answerOf}
-use Rattle.skeleton.specs.declared.Written.{Written}
+use Rattle.iteration.specs.Written.{answerOf}
+use Rattle.iteration.specs.declared.Written.{Written}
 use Rattle.calls.specs.Replies.{replyOf}
 use borrow.Author.Needs.{needs}
 use Rattle.calls.proofs.of_written.Statement.{statement}

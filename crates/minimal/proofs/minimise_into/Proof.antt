@@ -1,7 +1,7 @@
 -- `minimal::minimise_into` meets its contract.
 -- What the rows of refusals let pass begins the count; the walk begins with what that leaves; counters and work are cleared.
 use mathlib.Core.Path.{_∙_, ap, refl}
-use Prim.Native.Nat.{_*_, _+_, _/_, ℕ}
+use Prim.Native.Nat.{ℕ}
 use native.Mathlib.Omega.{arith}
 use borrow.Author.Needs.{needs}
 use denote.Ref.{now}
@@ -32,14 +32,13 @@ mul-p : tie.Need-mul-p
 mul-p c =
     let s = c .before .before .before in
     let a = s .args in
-    let p = a .h * ((a .w + 7) / 8) in
-    omega (arith, sheet-small (passed-sheet (a .w) (a .h) (a .element) (now (a .labels)) (now (a .work)) (now (a .counters)) (s .pre)))
+    omega (arith, sheet-small (passed-sheet (s .pre)))
 
 tallest-requires : tie.Need-tallest-requires
 tallest-requires c κs =
     let s = c .before .before .before .before in
     let a = s .args in
-    passed-some (a .w) (a .h) (a .element) (now (a .labels)) (now (a .work)) (now (a .counters)) (s .pre)
+    passed-some (s .pre)
 
 slice-read-top : tie.Need-slice-read-top
 slice-read-top c = c .before .tallest .ensures .0
@@ -54,7 +53,7 @@ count-up-requires c κs =
     let s = start c in
     let a = s .args in
     let t = at-tallest .tallest in (
-      passed-begun (a .w) (a .h) (a .element) (now (a .labels)) (now (a .work)) (now (a .counters)) (s .pre) (t .result) (now (a .work)) (t .ensures .0)
+      passed-begun (s .pre) (t .result) (now (a .work)) (t .ensures .0)
           (t .ensures .1) (omega (arith, at-slice-known4 .slice-known4 .given (t .result))) refl,
       s .pre .counters,
     )
@@ -68,7 +67,7 @@ walk-requires c κs =
     let a = s .args in
     let t = at-tallest .tallest in
     let u = at-count-up .count-up .ensures in (
-      passed-begun (a .w) (a .h) (a .element) (now (a .labels)) (now (a .work)) (now (a .counters)) (s .pre) (t .result) _ (t .ensures .0) (t .ensures .1)
+      passed-begun (s .pre) (t .result) _ (t .ensures .0) (t .ensures .1)
           (omega (arith, at-slice-known4 .slice-known4 .given (t .result))) (u .1 .size),
       u .0,
     )
@@ -82,9 +81,9 @@ clear-work-requires c κs =
     let at-count-up = to-count-up (at-walk .before) in
     let s = start (at-count-up .before) in
     let a = s .args in (
-      passed-planes (a .w) (a .h) (a .element) (now (a .labels)) (now (a .work)) (now (a .counters)) (s .pre) _ _ (at-count-up .count-up .ensures .1)
+      passed-planes (s .pre) _ _ (at-count-up .count-up .ensures .1)
           (at-walk .walk .ensures .1),
-      sheet-small (passed-sheet (a .w) (a .h) (a .element) (now (a .labels)) (now (a .work)) (now (a .counters)) (s .pre)),
+      sheet-small (passed-sheet (s .pre)),
     )
 
 points-of-requires : tie.Need-points-of-requires
@@ -96,7 +95,7 @@ points-of-requires c κs =
       arith,
       at-walk .walk .kept .1 .1 .1 .1 .1 .1 .1 .0,
       s .pre .places,
-      passed-few (a .w) (a .h) (a .element) (now (a .labels)) (now (a .work)) (now (a .counters)) (s .pre),
+      passed-few (s .pre),
     )
 
 same-length : tie.Need-same-length
@@ -121,7 +120,7 @@ returns c =
     record {
       labels = w .ensures .0;
       points = c .points-of .ensures;
-      work = passed-cleared (a .w) (a .h) (a .element) (now (a .labels)) (now (a .work)) (now (a .counters)) (s .pre) _ _ _ (u .ensures .1) (w .ensures .1)
+      work = passed-cleared (s .pre) _ _ _ (u .ensures .1) (w .ensures .1)
           (at-clear-work .clear-work .ensures);
       counters = at-clear .clear .ensures ∙ ap (λ (n : ℕ). replicate n 0)
           (w .kept .1 .1 .1 .1 .1 .1 .1 .1 .1 .0 ∙ u .kept .1 .1 .1 .1 .1 .1 .1 .1 .1 .0 ∙ s .pre .counters);

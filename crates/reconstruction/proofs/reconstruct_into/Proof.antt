@@ -1,4 +1,4 @@
--- `reconstruction::reconstruct_into` meets its contract.
+-- `reconstruction::reconstruct_into`: the first plane is empty, then holds what is gathered down to the cut, then that dilated: the reconstruction.
 use mathlib.Core.Path.{_∙_, sym}
 use Prim.Native.Nat.{_*_, _+_, _/_, ℕ}
 use native.Mathlib.Omega.{arith}
@@ -19,55 +19,58 @@ add-r c = search needs
 mul-p : tie.Need-mul-p
 mul-p c =
     let s = c .before .before .before in
-    let k = frame-sheet (s .pre .frame) in
-    let p = s .args .h * ((s .args .w + 7) / 8) in
-    omega (arith, sheet-small k)
+    let a = s .args in
+    omega (arith, sheet-small (frame-sheet (s .pre .frame)))
 
 slice-relend-prefix-fill : tie.Need-slice-relend-prefix-fill
 slice-relend-prefix-fill c =
     let s = c .before .before .before in
-    let p = s .args .h * ((s .args .w + 7) / 8) in
+    let a = s .args in
     omega (arith, s .pre .work, sheet-bytes (frame-sheet (s .pre .frame)))
 
 slice-aggregate-fill : tie.Need-slice-aggregate-fill
 slice-aggregate-fill c =
     let s = c .before .before .before .before in
-    let p = s .args .h * ((s .args .w + 7) / 8) in
-    sym (length-take-le p (now (s .args .work)) (omega (arith, s .pre .work, sheet-bytes (frame-sheet (s .pre .frame)))))
+    let a = s .args in
+    sym (length-take-le (a .h * ((a .w + 7) / 8)) (now (a .work)) (omega (arith, s .pre .work, sheet-bytes (frame-sheet (s .pre .frame)))))
 
 fill-requires : tie.Need-fill-requires
 fill-requires c κs = search needs
 
 gather-requires : tie.Need-gather-requires
 gather-requires c κs =
-    let s = c .before .before .before .before .before .before .before .before in
+    let b = c .before .before .before in
+    let s = b .before .before .before .before .before in
     let a = s .args in
-    let p = a .h * ((a .w + 7) / 8) in
-    let q = sheet-bytes (frame-sheet (s .pre .frame)) in
-    let v = emptied p (now (a .work)) _ (omega (arith, s .pre .work, q)) (c .before .before .before .fill .ensures) in
-    (frame-sheet (s .pre .frame), omega (arith, v .size, s .pre .work, q), s .pre .labels, v .first)
+    let k = frame-sheet (s .pre .frame) in
+    let q = sheet-bytes k in
+    let v = emptied (a .h * ((a .w + 7) / 8)) (now (a .work)) _ (omega (arith, s .pre .work, q)) (b .fill .ensures) in
+    (k, omega (arith, v .size, s .pre .work, q), s .pre .labels, v .first)
 
 dilate-times-requires : tie.Need-dilate-times-requires
 dilate-times-requires c κs =
-    let s = c .before .before .before .before .before .before .before .before .before .before .before .before in
+    let g = c .before .before .before in
+    let b = g .before .before .before .before in
+    let s = b .before .before .before .before .before in
     let a = s .args in
     let p = a .h * ((a .w + 7) / 8) in
-    let q = sheet-bytes (frame-sheet (s .pre .frame)) in
-    let v = emptied p (now (a .work)) _ (omega (arith, s .pre .work, q)) (c .before .before .before .before .before .before .before .fill .ensures) in
-    let g = c .before .before .before .gather .ensures in (
-      frame-sheet (s .pre .frame),
-      omega (arith, v .size, g .size, s .pre .work, q),
-      gathered-cleans (a .w) (a .h) p (a .element) (a .cut) q (now (a .labels)) (s .pre .labels) _ _ g,
-    )
+    let k = frame-sheet (s .pre .frame) in
+    let q = sheet-bytes k in
+    let v = emptied p (now (a .work)) _ (omega (arith, s .pre .work, q)) (b .fill .ensures) in
+    let m = g .gather .ensures in
+    (k, omega (arith, v .size, m .size, s .pre .work, q), gathered-cleans (a .w) (a .h) p (a .element) (a .cut) q (now (a .labels)) (s .pre .labels) _ _ m)
 
 hand-out-requires : tie.Need-hand-out-requires
 hand-out-requires c κs =
-    let s = c .before .before .before .before .before .before .before .before .before .before .before .before .before .before .before .before .before in
+    let d = c .before .before .before .before in
+    let g = d .before .before .before .before in
+    let b = g .before .before .before .before in
+    let s = b .before .before .before .before .before in
     let a = s .args in
-    let p = a .h * ((a .w + 7) / 8) in
-    let q = sheet-bytes (frame-sheet (s .pre .frame)) in
-    let v = emptied p (now (a .work)) _ (omega (arith, s .pre .work, q)) (c .before .before .before .before .before .before .before .before .before .before .before .before .fill .ensures) in
-    (omega (arith, v .size, c .before .before .before .before .before .before .before .before .gather .ensures .size, c .before .before .before .before .dilate-times .ensures .size, s .pre .work, q), s .pre .image ∙ sym q, sheet-small (frame-sheet (s .pre .frame)))
+    let k = frame-sheet (s .pre .frame) in
+    let q = sheet-bytes k in
+    let v = emptied (a .h * ((a .w + 7) / 8)) (now (a .work)) _ (omega (arith, s .pre .work, q)) (b .fill .ensures) in
+    (omega (arith, v .size, g .gather .ensures .size, d .dilate-times .ensures .size, s .pre .work, q), s .pre .image ∙ sym q, sheet-small k)
 
 same-length : tie.Need-same-length
 same-length c = search needs
@@ -77,15 +80,20 @@ same-length-2 c = search needs
 
 returns : tie.Need-returns
 returns c =
-    let s = c .before .before .before .before .before .before .before .before .before .before .before .before .before .before .before .before .before .before .before .before .before .before in
+    let o = c .before .before .before .before in
+    let d = o .before .before .before .before .before in
+    let g = d .before .before .before .before in
+    let b = g .before .before .before .before in
+    let s = b .before .before .before .before .before in
     let a = s .args in
     let p = a .h * ((a .w + 7) / 8) in
     let q = sheet-bytes (frame-sheet (s .pre .frame)) in
-    let v = emptied p (now (a .work)) _ (omega (arith, s .pre .work, q)) (c .before .before .before .before .before .before .before .before .before .before .before .before .before .before .before .before .before .fill .ensures) in
+    let v = emptied p (now (a .work)) _ (omega (arith, s .pre .work, q)) (b .fill .ensures) in
     let t = s .pre .labels in
     wrote (a .w) (a .h) p _ (reconstruction (a .w) (a .h) (offsets (a .element)) (a .cut) (now (a .labels))) (replicate p 0) (now (a .work)) _ _ _ _ q
     (kept-on (a .w) (a .h) p (a .element) (a .cut) q (now (a .labels)) t) (length-replicate {A = ℕ} p 0) (v .zeros)
-    (gathered-dilated (a .w) (a .h) p (a .element) (a .cut) q (now (a .labels)) t _ _ _ (c .before .before .before .before .before .before .before .before .before .before .before .before .before .gather .ensures) (c .before .before .before .before .before .before .before .before .before .dilate-times .ensures)) (c .before .before .before .before .hand-out .ensures)
+    (gathered-dilated (a .w) (a .h) p (a .element) (a .cut) q (now (a .labels)) t _ _ _ (g .gather .ensures) (d .dilate-times .ensures))
+    (o .hand-out .ensures)
 
 pub reconstruct-into-spec : {M : Type 1} → statement M
 reconstruct-into-spec =

@@ -1,4 +1,4 @@
--- `skeleton::decompose_refusal` meets its contract.
+-- `skeleton::decompose_refusal`: rows 1 to 4, of which row 3 has the labels.
 use borrow.Author.Needs.{needs}
 use Rattle.skeleton.proofs.decompose_refusal.Statement.{statement}
 use Rattle.skeleton.proofs.decompose_refusal.Tie as tie

@@ -1,4 +1,4 @@
--- `skeleton::fold_refusal` meets its contract.
+-- `skeleton::fold_refusal`: rows 1 to 4, then row 7.
 use mathlib.Core.List.{[], _∷_}
 use borrow.Author.Needs.{needs}
 use Rattle.morphology.proofs.RefusalLaws.{first-both, first-row}

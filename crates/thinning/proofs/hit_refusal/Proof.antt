@@ -1,4 +1,4 @@
--- `thinning::hit_refusal` meets its contract.
+-- `thinning::hit_refusal`: row 1, and where it does not hold rows 3, 4 and 6.
 use borrow.Author.Needs.{needs}
 use mathlib.Core.List.{[], _∷_}
 use mathlib.Core.Path.{_∙_, sym}

@@ -1,4 +1,4 @@
--- `thinning::thin_refusal` meets its contract.
+-- `thinning::thin_refusal`: row 1, and where it does not hold rows 3 and 4.
 use borrow.Author.Needs.{needs}
 use mathlib.Core.Path.{_∙_, sym}
 use Rattle.morphology.proofs.RefusalLaws.{first-hit, first-miss}

@@ -1,8 +1,0 @@
--- What erosion, opening and reconstruction answer, as 01 numbers it.
-use Rattle.morphology.specs.Answers.{Answer, foreground, refused}
-use Rattle.skeleton.specs.declared.Written.{Written}
-use Rattle.skeleton.specs.declared.Written.the-variants.{Area, Refused}
-
-abbrev pub answerOf : Written → Answer
-answerOf (Refused n) = refused n
-answerOf (Area n) = foreground n
