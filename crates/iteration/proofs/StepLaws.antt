@@ -2,7 +2,7 @@
 use mathlib.Core.Bool.{Bool, false, not}
 use mathlib.Core.List.{List, [], _++_, _∷_}
 use mathlib.Core.Path.{_∙_, _≡_, ap, ap₂, refl, sym}
-use Prim.Native.Nat.{_*_, _+_, _/_, _<_, _^_, _≤_, suc, zero, ℕ}
+use Prim.Native.Nat.{_*_, _+_, _-_, _/_, _<_, _^_, _≤_, suc, zero, ℕ}
 use native.Mathlib.Nat.{le-refl, min-le-left, mul-le-mul-right}
 use native.Mathlib.Numerals.{add-one}
 use native.Mathlib.Omega.{arith}
@@ -231,28 +231,34 @@ pub three-cleared : (n : ℕ) (old ys : List ℕ) → ys ≡ replicate (length (
     → ys ++ drop n old ≡ replicate n 0 ++ drop n old
 three-cleared n old ys e h = ap (λ (l : List ℕ). l ++ drop n old) (e ∙ ap (λ (k : ℕ). replicate k 0) (length-take-le n old h))
 
--- work as it is left: cleared, and as it was before an image was copied in
+-- what is the same from some byte on is so from a later one
+drop-later : (k n : ℕ) (u v : List ℕ) → k ≤ n → drop k u ≡ drop k v → drop n u ≡ drop n v
+drop-later k n u v h e =
+    let d : n ≡ k + (n - k) = omega arith in
+    ap (λ (i : ℕ). drop i u) d ∙ sym (drop-drop (n - k) k u) ∙ ap (drop (n - k)) e ∙ drop-drop (n - k) k v ∙ ap (λ (i : ℕ). drop i v) (sym d)
+
+-- work as it is left: three planes cleared, and as it was from some byte of them on
+pub work-cleared : (W H p k : ℕ) (work u : List ℕ) → p ≡ planeBytes W H → k ≤ 3 * p → drop k u ≡ drop k work
+    → replicate (3 * p) 0 ++ drop (3 * p) u ≡ cleared W H work
+unfolding cleared
+work-cleared W H p k work u q h e =
+    ap (λ (l : List ℕ). replicate (3 * p) 0 ++ l) (drop-later k (3 * p) u work h e) ∙ ap (λ (n : ℕ). replicate (3 * n) 0 ++ drop (3 * n) work) q
+
+-- the same before an image was copied in
 pub rest-cleared : (W H p : ℕ) (image work ys u : List ℕ) → p ≡ planeBytes W H → length image ≡ p → ys ≡ image
     → drop (3 * p) u ≡ drop (3 * p) (ys ++ drop p work)
     → replicate (3 * p) 0 ++ drop (3 * p) u ≡ cleared W H work
-unfolding cleared
 rest-cleared W H p image work ys u q hi ey m =
-    let d : 3 * p ≡ p + 2 * p = omega arith in
-    ap (λ (l : List ℕ). replicate (3 * p) 0 ++ l)
-    (m ∙ ap₂ (λ (k : ℕ) (l : List ℕ). drop k (l ++ drop p work)) d ey ∙ sym (drop-drop (2 * p) p (image ++ drop p work))
-    ∙ ap (drop (2 * p)) (drop-at image (drop p work) p hi) ∙ drop-drop (2 * p) p work ∙ ap (λ (k : ℕ). drop k work) (sym d))
-    ∙ ap (λ (k : ℕ). replicate (3 * k) 0 ++ drop (3 * k) work) q
+    work-cleared W H p (3 * p) work u q (le-refl (3 * p))
+    (m ∙ ap (λ (l : List ℕ). drop (3 * p) (l ++ drop p work)) ey
+    ∙ drop-later p (3 * p) (image ++ drop p work) work (omega arith) (drop-at image (drop p work) p hi))
 
 -- handed out after an image was copied in
 pub wrote : (W H p n : ℕ) (X : Point → Bool) (image work ys u out work′ : List ℕ) → p ≡ planeBytes W H → OnFrame W H X → length image ≡ p → ys ≡ image
     → First W H p X (ys ++ drop p work) u → HandedOut p (take p u) n out u work′ → Wrote W H X n out work work′
 wrote W H p n X image work ys u out work′ q on hi ey m h =
-    let d : 3 * p ≡ 2 * p + p = omega arith in
-    let rest : drop (3 * p) u ≡ drop (3 * p) (ys ++ drop p work) =
-    ap (λ (k : ℕ). drop k u) d ∙ sym (drop-drop p (2 * p) u) ∙ ap (drop p) (m .rest) ∙ drop-drop p (2 * p) (ys ++ drop p work)
-    ∙ ap (λ (k : ℕ). drop k (ys ++ drop p work)) (sym d) in
     record {
       answer = h .answer ∙ ap onesOf (m .first) ∙ sym (area-pack W H X on);
       image = h .image ∙ m .first;
-      left = h .left ∙ rest-cleared W H p image work ys u q hi ey rest;
+      left = h .left ∙ rest-cleared W H p image work ys u q hi ey (drop-later (2 * p) (3 * p) u (ys ++ drop p work) (omega arith) (m .rest));
     }

@@ -6,7 +6,6 @@ use native.Mathlib.Nat.{mul-le-mul, mul-pos}
 use native.Mathlib.Omega.{arith}
 use borrow.Author.Tests.{ltb-false}
 use lib.ListN.{drop, getD, length, replicate}
-use lib.Seq.{drop-drop}
 use Rattle.morphology.specs.Answers.{minimal, outcome, refused}
 use Rattle.morphology.specs.Element.{offsets}
 use Rattle.morphology.specs.Image.{planeBytes}
@@ -21,7 +20,7 @@ use Rattle.morphology.proofs.ReconstructLaws.{kept-on}
 use Rattle.morphology.proofs.RefusalLaws.{checked-refused, fits-plane, unless-in}
 use Rattle.refusals.proofs.SideLaws.{shaped, sides-frame}
 use Rattle.iteration.specs.Steps.{Sheet}
-use Rattle.iteration.proofs.StepLaws.{frame-sheet, sheet-bytes}
+use Rattle.iteration.proofs.StepLaws.{frame-sheet, sheet-bytes, work-cleared}
 use Rattle.minimal.specs.Minimised.{Passed, Shortened}
 use Rattle.minimal.specs.Sizes.{Begun, Left, Tame}
 
@@ -82,13 +81,7 @@ module _ {W H e : ℕ} {m w c : List ℕ} (d : Passed W H e m w c) where
 
   pub passed-cleared : (u v k : List ℕ) → Left (H * ((W + 7) / 8)) w u → Left (H * ((W + 7) / 8)) u v
       → k ≡ replicate (3 * (H * ((W + 7) / 8))) 0 ++ drop (3 * (H * ((W + 7) / 8))) v → k ≡ cleared W H w
-  unfolding cleared
-  passed-cleared u v k f g q =
-      let p = H * ((W + 7) / 8) in
-      let three : 3 * p ≡ 2 * p + p = omega arith in
-      let rest : drop (3 * p) v ≡ drop (3 * p) w =
-      ap (λ (n : ℕ). drop n v) three ∙ sym (drop-drop p (2 * p) v) ∙ ap (drop p) (g .rest ∙ f .rest) ∙ drop-drop p (2 * p) w ∙ ap (λ (n : ℕ). drop n w) (sym three) in
-      q ∙ ap (λ (l : List ℕ). replicate (3 * p) 0 ++ l) rest ∙ ap (λ (n : ℕ). replicate (3 * n) 0 ++ drop (3 * n) w) (sheet-bytes passed-sheet)
+  passed-cleared u v k f g q = let p = H * ((W + 7) / 8) in q ∙ work-cleared W H p (2 * p) w v (sheet-bytes passed-sheet) (omega arith) (g .rest ∙ f .rest)
 
 -- ---- the outcome
 

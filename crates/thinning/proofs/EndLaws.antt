@@ -6,10 +6,9 @@ use native.Mathlib.Nat.{mul-le-mul-right}
 use native.Mathlib.Omega.{arith}
 use borrow.Author.Tests.{ne-eqb}
 use lib.ListN.{drop, length, replicate}
-use lib.Seq.{drop-drop}
 use Rattle.morphology.specs.Answers.{outcome, thinned}
 use Rattle.morphology.specs.Image.{imageSet, onesOf, planeBytes}
-use Rattle.morphology.specs.Operations.{cleared, thin, thinRows}
+use Rattle.morphology.specs.Operations.{thin, thinRows}
 use Rattle.morphology.specs.Refusals.{firstRefusal}
 use Rattle.morphology.specs.Thinning.{golayL, thinPass}
 use Rattle.morphology.proofs.AreaLaws.{area-ones}
@@ -17,6 +16,7 @@ use Rattle.morphology.proofs.PlaneLaws.{Plane, area-le}
 use Rattle.morphology.proofs.ThinningLaws.{less, points}
 use Rattle.raster.specs.Limits.{maxFrame}
 use Rattle.raster.specs.Frames.{Frame}
+use Rattle.iteration.proofs.StepLaws.{work-cleared}
 use Rattle.thinning.specs.Passes.{Ended, Leaves}
 use Rattle.thinning.proofs.ThinTurns.{Passed, passed-bound, passed-last, passed-start, passed-turn, plane-pass, thin-outcome}
 
@@ -90,12 +90,8 @@ module _ (W H p : ℕ) where
 
   pub thin-done : (image work t u work′ : List ℕ) (n k l : ℕ) → firstRefusal (thinRows W H image work) ≡ 0 → p ≡ planeBytes W H
       → Ended W H p image t work u n k l → work′ ≡ replicate (3 * p) 0 ++ drop (3 * p) u → outcome (thinned n k l) (t ∷ work′ ∷ []) ≡ thin W H image work
-  unfolding cleared
   thin-done image work t u work′ n k l z q d e =
-      let y : 3 * p ≡ p + 2 * p = omega arith in
-      let rest : drop (3 * p) u ≡ drop (3 * p) work =
-      ap (λ (i : ℕ). drop i u) y ∙ sym (drop-drop (2 * p) p u) ∙ ap (drop (2 * p)) (d .rest) ∙ drop-drop (2 * p) p work ∙ ap (λ (i : ℕ). drop i work) (sym y) in
-      let w : work′ ≡ cleared W H work = e ∙ ap (λ (s : List ℕ). replicate (3 * p) 0 ++ s) rest ∙ ap (λ (i : ℕ). replicate (3 * i) 0 ++ drop (3 * i) work) q in
+      let w = e ∙ work-cleared W H p p work u q (omega arith) (d .rest) in
       ap₂ (λ (i j : ℕ). outcome (thinned n i j) (t ∷ work′ ∷ [])) (d .removed) (d .left)
       ∙ ap (λ (s : List ℕ). outcome (thinned n (points W H image - points W H t) (points W H t)) (t ∷ s ∷ [])) w
       ∙ sym (thin-outcome W H image work t n z (d .thinned))
