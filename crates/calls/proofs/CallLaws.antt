@@ -23,23 +23,23 @@ use Rattle.calls.specs.declared.Reply.{Reply}
 
 -- ---- an answer of at most three values, as a reply and back
 
-abbrev pub Kept : Answer → Type 0
-Kept a = answerOf (replyOf a) ≡ a
+abbrev pub Faithful : Answer → Type 0
+Faithful a = answerOf (replyOf a) ≡ a
 
-pub written-kept : (d : Written) → Kept (writtenAnswer d)
+pub written-kept : (d : Written) → Faithful (writtenAnswer d)
 written-kept (NotWritten n) = refl
 written-kept (Area n) = refl
 
-pub decomposed-kept : (d : Decomposed) → Kept (decomposedAnswer d)
+pub decomposed-kept : (d : Decomposed) → Faithful (decomposedAnswer d)
 decomposed-kept (NotDecomposed n) = refl
 decomposed-kept Blank = refl
 decomposed-kept (Skeleton n s) = refl
 
-pub minimised-kept : (d : Minimised) → Kept (minimisedAnswer d)
+pub minimised-kept : (d : Minimised) → Faithful (minimisedAnswer d)
 minimised-kept (NotMinimised n) = refl
 minimised-kept (Points n) = refl
 
-pub thinned-kept : (d : Thinned) → Kept (thinnedAnswer d)
+pub thinned-kept : (d : Thinned) → Faithful (thinnedAnswer d)
 thinned-kept (NotThinned n) = refl
 thinned-kept (Done p r n) = refl
 
@@ -48,12 +48,12 @@ thinned-kept (Done p r n) = refl
 abbrev pub Owed : Reply → List (List ℕ) → Outcome → Type 0
 Owed r l o = (outcome (answerOf r) l ≡ o) × (r ≡ replyOf (answerOf r))
 
-pub owed : {a : Answer} {r : Reply} (l : List (List ℕ)) {o p : Outcome} → Kept a → r ≡ replyOf a → outcome a l ≡ o → p ≡ o → Owed r l p
+pub owed : {a : Answer} {r : Reply} (l : List (List ℕ)) {o p : Outcome} → Faithful a → r ≡ replyOf a → outcome a l ≡ o → p ≡ o → Owed r l p
 owed {a} {r} l k e q g =
     let s : answerOf r ≡ a = ap answerOf e ∙ k in (ap (λ (b : Answer). outcome b l) s ∙ q ∙ sym g, e ∙ ap replyOf (sym s))
 
 -- the same beside buffers that the operation does not have
-pub owed-beside : {a : Answer} {r : Reply} (l others : List (List ℕ)) {o p : Outcome} → Kept a → r ≡ replyOf a → outcome a l ≡ o → p ≡ beside o others
+pub owed-beside : {a : Answer} {r : Reply} (l others : List (List ℕ)) {o p : Outcome} → Faithful a → r ≡ replyOf a → outcome a l ≡ o → p ≡ beside o others
     → Owed r (l ++ others) p
 owed-beside l others k e q g = owed (l ++ others) k e (ap (λ (o : Outcome). beside o others) q) g
 

@@ -69,15 +69,15 @@ module _ (W H e : ℕ) (el : T (isElement e)) where
   image-open k image = image-pack W H (openingOf W H e k image) (open-on W H (times (offsets e) k) (imageSet W H image) (image-on W H image))
 
   -- what a list leaves, and what the last of those not refused answered
-  abbrev pub Leaves : List ℕ → ℕ → List ℕ → Type 0
-  Leaves image K last = last ≡ pack W H (openingOf W H e K image)
+  abbrev pub LeavesOpening : List ℕ → ℕ → List ℕ → Type 0
+  LeavesOpening image K last = last ≡ pack W H (openingOf W H e K image)
 
   abbrev pub Answers : List ℕ → ℕ → List (Sieve × Outcome) → Type 0
   Answers image K done =
       (before : List (Sieve × Outcome)) (a : Sieve × Outcome) → done ≡ before ++ (a ∷ []) → a .1 .answer ≡ foreground (area W H (openingOf W H e K image))
 
-  abbrev Ends : List Sieve → List ℕ → Type 0
-  Ends ss image = Leaves image (largestCut (accepted ss image)) (sieveAll ss image) × Answers image (largestCut (accepted ss image)) (accepted ss image)
+  abbrev LeftAndAnswered : List Sieve → List ℕ → Type 0
+  LeftAndAnswered ss image = LeavesOpening image (largestCut (accepted ss image)) (sieveAll ss image) × Answers image (largestCut (accepted ss image)) (accepted ss image)
 
   -- the last answer, one sieve more at the front
   answers-more : (s : Sieve) (o : Outcome) (rest : List (Sieve × Outcome)) (image next : List ℕ)
@@ -96,7 +96,7 @@ module _ (W H e : ℕ) (el : T (isElement e)) where
       let r : rest ≡ before ++ (a ∷ []) = cc in
       ih before a r ∙ ap (λ (Y : Point → Bool). foreground (area W H Y)) y
 
-  pub sieves-open : (ss : List Sieve) (image : List ℕ) → image ≡ pack W H (imageSet W H image) → OneFrame W H e (accepted ss image) → Ends ss image
+  pub sieves-open : (ss : List Sieve) (image : List ℕ) → image ≡ pack W H (imageSet W H image) → OneFrame W H e (accepted ss image) → LeftAndAnswered ss image
   unfolding sieveAll accepted largestCut greatest sieved
   sieves-open [] image c one = (
     c ∙ ap (pack W H) (sym (open-zero (offsets e) (imageSet W H image))),
@@ -110,8 +110,8 @@ module _ (W H e : ℕ) (el : T (isElement e)) where
       list : Bool → List (Sieve × Outcome)
       list b = cond b (accepted ss (next b)) ((s, rebuilt s image) ∷ accepted ss (next b))
 
-      go : (b : Bool) → sieveRefused s image ≡ b → ((i : List ℕ) → i ≡ pack W H (imageSet W H i) → OneFrame W H e (accepted ss i) → Ends ss i)
-          → Leaves image (largestCut (list b)) (sieveAll ss (next b)) × Answers image (largestCut (list b)) (list b)
+      go : (b : Bool) → sieveRefused s image ≡ b → ((i : List ℕ) → i ≡ pack W H (imageSet W H i) → OneFrame W H e (accepted ss i) → LeftAndAnswered ss i)
+          → LeavesOpening image (largestCut (list b)) (sieveAll ss (next b)) × Answers image (largestCut (list b)) (list b)
       go true q ih = ih image c (subst (λ (b : Bool). OneFrame W H e (list b)) q one)
       go false q ih =
           let one′ = subst (λ (b : Bool). OneFrame W H e (list b)) q one in

@@ -179,7 +179,7 @@ wild-rows W H B k m = T-ext to of
 -- ---- the loop over the rows
 
 -- the element's extents, and the limits of the columns
-pub record Ready (W H : ℕ) (B : List Point) (k : ℕ) (m : List ℕ) (left right up down : ℕ) (limits : List ℕ) : Type 0 where
+pub record Limited (W H : ℕ) (B : List Point) (k : ℕ) (m : List ℕ) (left right up down : ℕ) (limits : List ℕ) : Type 0 where
   pub shape : Element B
   pub size : length m ≡ W * H
   pub labels : (i : ℕ) → getD m i 0 ≤ maxLabel
@@ -198,14 +198,14 @@ abbrev pub rowOver : List ℕ → List ℕ → ℕ → Bool
 rowOver row limits l = someOf (λ x. over (getD row x 0) (getD limits x 0) l) (upTo (length row))
 
 -- a part of W labels has a limit for each
-pub part-limited : {W H : ℕ} {B : List Point} {k : ℕ} {m : List ℕ} {left right up down : ℕ} {limits : List ℕ} → Ready W H B k m left right up down limits
+pub part-limited : {W H : ℕ} {B : List Point} {k : ℕ} {m : List ℕ} {left right up down : ℕ} {limits : List ℕ} → Limited W H B k m left right up down limits
     → (a : ℕ)
     → length (take (a + W - a) (drop a m)) ≤ length limits
 part-limited {W} {m = m} {limits = limits} r a =
     let n : ℕ = a + W - a in
     omega (arith, length-take n (drop a m), min-le-left n (length (drop a m)), r .room)
 
-module _ {W H : ℕ} {B : List Point} {k : ℕ} {m : List ℕ} {left right up down : ℕ} {limits : List ℕ} (r : Ready W H B k m left right up down limits) (y : ℕ)
+module _ {W H : ℕ} {B : List Point} {k : ℕ} {m : List ℕ} {left right up down : ℕ} {limits : List ℕ} (r : Limited W H B k m left right up down limits) (y : ℕ)
     (h : y < H) where
   pub row-fits : y * W + W ≤ length m
   row-fits = omega (arith, row-in y H W (H * W) h (le-refl (H * W)), mul-comm H W, r .size)

@@ -1,1 +1,1 @@
-pub mod WithinLaws
+pub mod FilledLaws

@@ -116,16 +116,16 @@ first-zeros {p = p} {u = u} q h a e = zeros-out (take p u) e ∙ ap (λ (n : ℕ
 -- ---- erosion n times
 
 module _ (W H p e : ℕ) (el : T (isElement e)) (q : p ≡ planeBytes W H) (X : Point → Bool) (on : OnFrame W H X) (w u : List ℕ) where
-  abbrev pub Eroded : ℕ → Type 0
-  Eroded i = First W H p (erode (times (offsets e) i) X) w u
+  abbrev pub ErodedFirst : ℕ → Type 0
+  ErodedFirst i = First W H p (erode (times (offsets e) i) X) w u
 
   pub eroded-first-on : (i : ℕ) → OnFrame W H (erode (times (offsets e) i) X)
   eroded-first-on i = eroded-on W H (offsets e) (element e el) X on i
 
-  pub eroded-clean : (i : ℕ) → Eroded i → T (isClean W H u)
+  pub eroded-clean : (i : ℕ) → ErodedFirst i → T (isClean W H u)
   eroded-clean i a = first-clean q (eroded-first-on i) a
 
-  pub eroded-more : (i : ℕ) (v : List ℕ) → Eroded i → First W H p (erode (offsets e) (imageSet W H u)) u v
+  pub eroded-more : (i : ℕ) (v : List ℕ) → ErodedFirst i → First W H p (erode (offsets e) (imageSet W H u)) u v
       → First W H p (erode (times (offsets e) (i + 1)) X) w v
   eroded-more i v a b =
       let Y = erode (times (offsets e) i) X in
@@ -134,7 +134,7 @@ module _ (W H p e : ℕ) (el : T (isElement e)) (q : p ≡ planeBytes W H) (X : 
       (ap (λ (Z : Point → Bool). pack W H (erode (offsets e) Z)) (first-image q (eroded-first-on i) a ∙ sym (image-pack W H Y (eroded-first-on i)))
       ∙ eroded-turn W H (offsets e) (element e el) X on i (pack W H Y) refl) b)
 
-  pub eroded-rest : (i n : ℕ) → i ≤ n → p ≤ length u → Eroded i → someOf (λ b. not (eqb b 0)) (take p u) ≡ false → Eroded n
+  pub eroded-rest : (i n : ℕ) → i ≤ n → p ≤ length u → ErodedFirst i → someOf (λ b. not (eqb b 0)) (take p u) ≡ false → ErodedFirst n
   eroded-rest i n h l a z =
       first-as (sym (a .first) ∙ eroded-stop W H (offsets e) (element e el) X on i n (take p u) h (a .first) (first-zeros q l a z)) a
 

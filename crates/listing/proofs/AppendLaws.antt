@@ -6,12 +6,12 @@ use native.Mathlib.Numerals.{add-one}
 use native.Mathlib.Omega.{arith}
 use lib.ListN.{drop, getD, length, length-append, length-set, set, take, take-append-drop}
 use lib.Seq.{drop-drop, drop-set-lt, take-suc, take-suc-set}
-use Rattle.listing.specs.Appended.{Appended, Listed, Room}
+use Rattle.listing.specs.Appended.{Appended, Listed, TextFits}
 
 pub appended-none : (at : ℕ) (out : List ℕ) → Appended [] at at out out
 appended-none at out = record { size = refl; ends = omega arith; text = sym (append-nil (take at out)); rest = refl }
 
-pub appended-byte : (b at : ℕ) (out : List ℕ) → Room (b ∷ []) at out → Appended (b ∷ []) at (at + 1) out (set out at b)
+pub appended-byte : (b at : ℕ) (out : List ℕ) → TextFits (b ∷ []) at out → Appended (b ∷ []) at (at + 1) out (set out at b)
 appended-byte b at out r = record {
   size = length-set out at b;
   ends = omega arith;
@@ -22,10 +22,10 @@ appended-byte b at out r = record {
 pub appended-as : {s t : List ℕ} {at next : ℕ} {out out′ : List ℕ} → s ≡ t → Appended s at next out out′ → Appended t at next out out′
 appended-as {s} {t} {at} {next} {out} {out′} e = subst (λ (u : List ℕ). Appended u at next out out′) e
 
-pub room-as : {s t : List ℕ} {at : ℕ} {out : List ℕ} → s ≡ t → Room s at out → Room t at out
-room-as {s} {t} {at} {out} e = subst (λ (u : List ℕ). Room u at out) e
+pub room-as : {s t : List ℕ} {at : ℕ} {out : List ℕ} → s ≡ t → TextFits s at out → TextFits t at out
+room-as {s} {t} {at} {out} e = subst (λ (u : List ℕ). TextFits u at out) e
 
-pub room-less : {s t : List ℕ} {at : ℕ} {out : List ℕ} → length s ≤ length t → Room t at out → Room s at out
+pub room-less : {s t : List ℕ} {at : ℕ} {out : List ℕ} → length s ≤ length t → TextFits t at out → TextFits s at out
 room-less h r = record { fits = omega arith }
 
 drop-more : (m n : ℕ) (l k : List ℕ) → m ≤ n → drop m l ≡ drop m k → drop n l ≡ drop n k
@@ -39,10 +39,10 @@ module _ (s u : List ℕ) {t : List ℕ} (e : t ≡ s ++ u) where
   pub size-of : length t ≡ length s + length u
   size-of = ap length e ∙ length-append s u
 
-  pub room-first : {at : ℕ} {out : List ℕ} → Room t at out → Room s at out
+  pub room-first : {at : ℕ} {out : List ℕ} → TextFits t at out → TextFits s at out
   room-first r = record { fits = omega (arith, size-of) }
 
-  pub room-next : {at mid : ℕ} {out out′ : List ℕ} → Room t at out → Appended s at mid out out′ → Room u mid out′
+  pub room-next : {at mid : ℕ} {out out′ : List ℕ} → TextFits t at out → Appended s at mid out out′ → TextFits u mid out′
   room-next r a = record { fits = omega (arith, size-of) }
 
   pub appended-then : {at mid next : ℕ} {out out′ out″ : List ℕ} → Appended s at mid out out′ → Appended u mid next out′ out″ → Appended t at next out out″
@@ -58,7 +58,7 @@ module _ (s u : List ℕ) {t : List ℕ} (e : t ≡ s ++ u) where
 pub appended-start : (text : List ℕ) (at : ℕ) (out : List ℕ) → Appended (take 0 text) at (at + 0) out out
 appended-start text at out = let n : at ≡ at + 0 = omega arith in subst (λ (m : ℕ). Appended [] at m out out) n (appended-none at out)
 
-pub appended-turn : (text out₀ out : List ℕ) (at i : ℕ) → i < length text → Room text at out₀ → Appended (take i text) at (at + i) out₀ out
+pub appended-turn : (text out₀ out : List ℕ) (at i : ℕ) → i < length text → TextFits text at out₀ → Appended (take i text) at (at + i) out₀ out
     → Appended (take (i + 1) text) at (at + (i + 1)) out₀ (set out (at + i) (getD text i 0))
 appended-turn text out₀ out at i l r a =
     let b = getD text i 0 in

@@ -8,7 +8,7 @@ use native.Mathlib.Omega.{arith}
 use lib.ListN.{drop, length, length-append, length-take, take}
 use Rattle.morphology.specs.Lists.{greatest}
 use Rattle.label_read.proofs.PointLaws.{greatest-drop, greatest-take}
-use Rattle.listing.specs.Appended.{Room}
+use Rattle.listing.specs.Appended.{TextFits}
 use Rattle.listing.specs.Printed.{longest, refusalText, side, skeletonText}
 use Rattle.listing.specs.Text.{after, decimal, line, lineFeed, mapText, space, spaced}
 use Rattle.listing.proofs.AnswerLaws.{counts, counts-pieces, refusal-pieces, skeleton-pieces}
@@ -62,7 +62,7 @@ map-words W (suc H) m h l =
 pub refusal-length : (n : ℕ) → n < 10 → length (refusalText n) ≤ longest
 refusal-length n l = omega (arith, ap length (refusal-pieces n), length-append (decimal n) (lineFeed ∷ []), one-digit n l)
 
-pub refusal-room : {n : ℕ} {out : List ℕ} → n < 10 → length out ≡ longest → Room (refusalText n) 0 out
+pub refusal-room : {n : ℕ} {out : List ℕ} → n < 10 → length out ≡ longest → TextFits (refusalText n) 0 out
 refusal-room {n} {out} l e = record { fits = omega (arith, refusal-length n l) }
 
 -- the largest output: every number of the first line with its most digits, and a label for each place of the largest image

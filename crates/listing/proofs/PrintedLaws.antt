@@ -32,13 +32,13 @@ use Rattle.listing.proofs.LengthLaws.{refusal-length, skeleton-length, 
 
 -- ---- the sizes of an image whose sides are bytes
 
-pub record Sizes (W H : ℕ) : Type 0 where
+pub record ByteSides (W H : ℕ) : Type 0 where
   pub across : W ≤ side
   pub down : H ≤ side
   pub places : W * H ≤ side * side
   pub bytes : H * ((W + 7) / 8) ≤ side * sideBytes
 
-pub sizes : (W H : ℕ) → W < 256 → H < 256 → Sizes W H
+pub sizes : (W H : ℕ) → W < 256 → H < 256 → ByteSides W H
 sizes W H a b =
     let w : W ≤ side = omega arith in
     let h : H ≤ side = omega arith in
@@ -105,7 +105,7 @@ module _ (W H e : ℕ) (image : List ℕ) where
   found-length = length-raster W H (skeletonFunction (offsets e) (imageSet W H image) (max W H))
 
   -- what is printed of an image fits the buffer
-  pub outcome-fits : Sizes W H → length (outcomeText W H (taken W H e image)) ≤ longest
+  pub outcome-fits : ByteSides W H → length (outcomeText W H (taken W H e image)) ≤ longest
   unfolding decomposed answerText
   outcome-fits z = by (firstRefusal rows) refl
     where

@@ -5,7 +5,7 @@ use Prim.Native.Nat.{_+_, _≤_, ℕ}
 use lib.ListN.{drop, length, take}
 
 -- out has room for text s from `at` on
-pub record Room (s : List ℕ) (at : ℕ) (out : List ℕ) : Type 0 where
+pub record TextFits (s : List ℕ) (at : ℕ) (out : List ℕ) : Type 0 where
   pub fits : at + length s ≤ length out
 
 -- text s stands after what out held up to `at`, and ends at next, from where out is as it was

@@ -6,13 +6,13 @@ ghost use mathlib.Core.Path.{_≡_};
 ghost use Prim.Native.Nat.{_*_};
 ghost use lib.ListN.{length};
 ghost use Rattle.skeleton.specs.Decomposed.{answerOf};
-ghost use Rattle.listing.specs.Appended.{Appended, Room};
+ghost use Rattle.listing.specs.Appended.{Appended, TextFits};
 ghost use Rattle.listing.specs.Printed.{answerText, noSize, refusalText, skeletonText};
 ghost use Rattle.listing.specs.Text.{decimal, spaced};
 
 // A refusal.
 pub fn put_refusal(n: u8, at: usize, out: &mut [u8]) -> usize
-    requires { ⌜ Room (refusalText n) at (now out) ⌝ }
+    requires { ⌜ TextFits (refusalText n) at (now out) ⌝ }
     ensures { λ next. ⌜ Appended (refusalText n) at next (now (out .entry)) (now (out .exit)) ⌝ }
 {
     let word = text::put_bytes(b"refused", at, out);
@@ -22,7 +22,7 @@ pub fn put_refusal(n: u8, at: usize, out: &mut [u8]) -> usize
 
 // Width, height and number of points.
 fn put_counts(w: u32, h: u32, points: u32, at: usize, out: &mut [u8]) -> usize
-    requires { ⌜ Room (spaced (decimal w ∷ decimal h ∷ decimal points ∷ [])) at (now out) ⌝ }
+    requires { ⌜ TextFits (spaced (decimal w ∷ decimal h ∷ decimal points ∷ [])) at (now out) ⌝ }
     ensures { λ next. ⌜ Appended (spaced (decimal w ∷ decimal h ∷ decimal points ∷ [])) at next (now (out .entry)) (now (out .exit)) ⌝ }
 {
     let first = text::put_decimal(w, at, out);
@@ -32,7 +32,7 @@ fn put_counts(w: u32, h: u32, points: u32, at: usize, out: &mut [u8]) -> usize
 
 // An empty image, which has no largest size.
 fn put_blank(w: u32, h: u32, labels: &[u8], at: usize, out: &mut [u8]) -> usize
-    requires { ⌜ (length (now labels) ≡ w * h) × Room (skeletonText w h 0 noSize (now labels)) at (now out) ⌝ }
+    requires { ⌜ (length (now labels) ≡ w * h) × TextFits (skeletonText w h 0 noSize (now labels)) at (now out) ⌝ }
     ensures { λ next. ⌜ Appended (skeletonText w h 0 noSize (now (labels .entry))) at next (now (out .entry)) (now (out .exit)) ⌝ }
 {
     let counts = put_counts(w, h, 0, at, out);
@@ -50,7 +50,7 @@ fn put_skeleton(
     at: usize,
     out: &mut [u8],
 ) -> usize
-    requires { ⌜ (length (now labels) ≡ w * h) × Room (skeletonText w h points (decimal largest) (now labels)) at (now out) ⌝ }
+    requires { ⌜ (length (now labels) ≡ w * h) × TextFits (skeletonText w h points (decimal largest) (now labels)) at (now out) ⌝ }
     ensures { λ next. ⌜ Appended (skeletonText w h points (decimal largest) (now (labels .entry))) at next (now (out .entry)) (now (out .exit)) ⌝ }
 {
     let counts = put_counts(w, h, points, at, out);
@@ -68,7 +68,7 @@ pub fn put_answer(
     at: usize,
     out: &mut [u8],
 ) -> usize
-    requires { ⌜ (length (now labels) ≡ w * h) × Room (answerText w h (answerOf answer) (now labels)) at (now out) ⌝ }
+    requires { ⌜ (length (now labels) ≡ w * h) × TextFits (answerText w h (answerOf answer) (now labels)) at (now out) ⌝ }
     ensures { λ next. ⌜ Appended (answerText w h (answerOf answer) (now (labels .entry))) at next (now (out .entry)) (now (out .exit)) ⌝ }
 {
     match answer {

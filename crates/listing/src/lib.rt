@@ -6,7 +6,7 @@ ghost use mathlib.Core.Path.{_≡_};
 ghost use Prim.Native.Nat.{_+_, _*_};
 ghost use lib.ListN.{length, replicate};
 ghost use Rattle.morphology.specs.Image.{planeBytes};
-ghost use Rattle.listing.specs.Appended.{Appended, Listed, Room};
+ghost use Rattle.listing.specs.Appended.{Appended, Listed, TextFits};
 ghost use Rattle.listing.specs.Printed.{longest, outcomeText, printed, side, sideBytes, taken};
 
 // The largest side, a byte, and the bytes of the longest row.
@@ -31,7 +31,7 @@ fn list_within(
     out: &mut [u8],
 ) -> usize
     requires { ⌜ (now labels ≡ replicate (w * h) 0) × (now work ≡ replicate (3 * planeBytes w h) 0)
-        × Room (outcomeText w h (taken w h element (now image))) 0 (now out) ⌝ }
+        × TextFits (outcomeText w h (taken w h element (now image))) 0 (now out) ⌝ }
     ensures { λ n. ⌜ Appended (outcomeText w h (taken w h element (now (image .entry)))) 0 n (now (out .entry)) (now (out .exit)) ⌝ }
 {
     let answer = skeleton::decompose(w, h, element, image, labels, work);

@@ -3,12 +3,12 @@ ghost use mathlib.Core.List.{[], _∷_, map};
 ghost use mathlib.Core.Path.{_≡_};
 ghost use Prim.Native.Nat.{_*_};
 ghost use lib.ListN.{length};
-ghost use Rattle.listing.specs.Appended.{Appended, Room};
+ghost use Rattle.listing.specs.Appended.{Appended, TextFits};
 ghost use Rattle.listing.specs.Text.{decimal, line, mapText, wordAt};
 
 // A byte.
 pub fn put(byte: u8, at: usize, out: &mut [u8]) -> usize
-    requires { ⌜ Room (byte ∷ []) at (now out) ⌝ }
+    requires { ⌜ TextFits (byte ∷ []) at (now out) ⌝ }
     ensures { λ next. ⌜ Appended (byte ∷ []) at next (now (out .entry)) (now (out .exit)) ⌝ }
 {
     out[at] = byte;
@@ -17,7 +17,7 @@ pub fn put(byte: u8, at: usize, out: &mut [u8]) -> usize
 
 // Bytes.
 pub fn put_bytes(text: &[u8], at: usize, out: &mut [u8]) -> usize
-    requires { ⌜ Room (now text) at (now out) ⌝ }
+    requires { ⌜ TextFits (now text) at (now out) ⌝ }
     ensures { λ next. ⌜ Appended (now (text .entry)) at next (now (out .entry)) (now (out .exit)) ⌝ }
 {
     let mut i: usize = 0;
@@ -30,7 +30,7 @@ pub fn put_bytes(text: &[u8], at: usize, out: &mut [u8]) -> usize
 
 // A number in decimal.
 pub fn put_decimal(n: u32, at: usize, out: &mut [u8]) -> usize
-    requires { ⌜ Room (decimal n) at (now out) ⌝ }
+    requires { ⌜ TextFits (decimal n) at (now out) ⌝ }
     ensures { λ next. ⌜ Appended (decimal n) at next (now (out .entry)) (now (out .exit)) ⌝ }
 {
     if n < 10 {
@@ -42,7 +42,7 @@ pub fn put_decimal(n: u32, at: usize, out: &mut [u8]) -> usize
 
 // Word i of a line, a number, after a space but for the first.
 pub fn put_word(i: usize, n: u32, at: usize, out: &mut [u8]) -> usize
-    requires { ⌜ Room (wordAt i (decimal n)) at (now out) ⌝ }
+    requires { ⌜ TextFits (wordAt i (decimal n)) at (now out) ⌝ }
     ensures { λ next. ⌜ Appended (wordAt i (decimal n)) at next (now (out .entry)) (now (out .exit)) ⌝ }
 {
     if i == 0 {
@@ -54,7 +54,7 @@ pub fn put_word(i: usize, n: u32, at: usize, out: &mut [u8]) -> usize
 
 // A row of labels as a line.
 pub fn put_row(row: &[u8], at: usize, out: &mut [u8]) -> usize
-    requires { ⌜ Room (line (map decimal (now row))) at (now out) ⌝ }
+    requires { ⌜ TextFits (line (map decimal (now row))) at (now out) ⌝ }
     ensures { λ next. ⌜ Appended (line (map decimal (now (row .entry)))) at next (now (out .entry)) (now (out .exit)) ⌝ }
 {
     let mut next = at;
@@ -68,7 +68,7 @@ pub fn put_row(row: &[u8], at: usize, out: &mut [u8]) -> usize
 
 // A map of h rows of w labels.
 pub fn put_map(w: usize, h: usize, labels: &[u8], at: usize, out: &mut [u8]) -> usize
-    requires { ⌜ (length (now labels) ≡ w * h) × Room (mapText w h (now labels)) at (now out) ⌝ }
+    requires { ⌜ (length (now labels) ≡ w * h) × TextFits (mapText w h (now labels)) at (now out) ⌝ }
     ensures { λ next. ⌜ Appended (mapText w h (now (labels .entry))) at next (now (out .entry)) (now (out .exit)) ⌝ }
 {
     let mut next = at;

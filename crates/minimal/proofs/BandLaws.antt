@@ -12,9 +12,9 @@ use Rattle.morphology.specs.Image.{stride}
 use Rattle.raster.specs.Limits.{maxFrame, maxStride}
 use Rattle.raster.specs.Rows.{rowBit}
 use Rattle.raster.proofs.RowLaws.{row-in}
-use Rattle.minimal.specs.Bands.{Banded, Blank, Margins, Strip, inkAt}
+use Rattle.minimal.specs.Bands.{InBand, Blank, Margins, Strip, inkAt}
 use Rattle.minimal.specs.declared.bands.Band.{Band}
-use Rattle.minimal.specs.Moves.{Moved, Open, Twice, Within, below, hits}
+use Rattle.minimal.specs.Moves.{CoverMoved, Open, Twice, Within, below, hits}
 use Rattle.minimal.proofs.MoveLaws.{moved-end, moved-more, moved-none, none-below, open-part, twice-more, twice-none, twice-part, within-part}
 use Rattle.minimal.proofs.PixelLaws.{ink-above, ink-band, row-ink, row-padded}
 
@@ -50,19 +50,19 @@ strip-more r from y a e b f s l m p q x lo hi = by (decLt x y)
 pub strip-end : (r from y to a e : ℕ) (s : List ℕ) → to ≤ y → Strip r from y a e s → Strip r from to a e s
 strip-end r from y to a e s l p x lo hi = p x lo (omega arith)
 
-module _ (W H r : ℕ) (g : Band) (s : List ℕ) (b : Banded W H r g s) where
+module _ (W H r : ℕ) (g : Band) (s : List ℕ) (b : InBand W H r g s) where
   -- a row's pixels
   abbrev pub rowOf : ℕ → (ℕ → Bool)
   rowOf y k = rowBit s (8 * (y * r) + k)
 
   -- ---- numbers
 
-  pub record Room (y : ℕ) : Type 0 where
+  pub record BandRoom (y : ℕ) : Type 0 where
     pub row : y * r + r ≤ length s
     pub narrow : r ≤ maxStride
     pub small : y * W ≤ maxFrame * maxFrame
 
-  pub room : (y : ℕ) → y < H - g .under → Room y
+  pub room : (y : ℕ) → y < H - g .under → BandRoom y
   unfolding stride
   room y h =
       let l : y < H = omega arith in
@@ -95,27 +95,27 @@ module _ (W H r : ℕ) (g : Band) (s : List ℕ) (b : Banded W H r g s) where
 
     -- ---- moved
 
-    pub band-start : (up : Bool) (c : List ℕ) → Moved up (hits (below (g .above * W) (inkAt W H s)) i a) c c
+    pub band-start : (up : Bool) (c : List ℕ) → CoverMoved up (hits (below (g .above * W) (inkAt W H s)) i a) c c
     band-start up c = moved-none up (below (g .above * W) (inkAt W H s)) i a c (none-below (g .above * W) (inkAt W H s) (λ k l. ink-above W H r g s b k l))
 
     pub band-open : (up : Bool) (y : ℕ) (c u : List ℕ) → y < H - g .under → Open up (below (W * H) (inkAt W H s)) i a c
-        → Moved up (hits (below (y * W) (inkAt W H s)) i a) c u
+        → CoverMoved up (hits (below (y * W) (inkAt W H s)) i a) c u
         → Open up (below (8 * r) (rowOf y)) (i + y * W) a u
     band-open up y c u h w p =
         subst (λ (f : ℕ → Bool). Open up f (i + y * W) a u) (padded y h)
         (open-part (inkAt W H s) (rowOf y) i (y * W) W a (of-row y h) up (W * H) c u (in-frame y h) w p)
 
-    pub band-more : (up : Bool) (y : ℕ) (c u v : List ℕ) → y < H - g .under → Moved up (hits (below (y * W) (inkAt W H s)) i a) c u
-        → Moved up (hits (below (8 * r) (rowOf y)) (i + y * W) a) u v → Moved up (hits (below ((y + 1) * W) (inkAt W H s)) i a) c v
+    pub band-more : (up : Bool) (y : ℕ) (c u v : List ℕ) → y < H - g .under → CoverMoved up (hits (below (y * W) (inkAt W H s)) i a) c u
+        → CoverMoved up (hits (below (8 * r) (rowOf y)) (i + y * W) a) u v → CoverMoved up (hits (below ((y + 1) * W) (inkAt W H s)) i a) c v
     band-more up y c u v h p q =
         moved-end up (inkAt W H s) i a (y * W + W) ((y + 1) * W) c v (next-row y)
         (moved-more (inkAt W H s) (rowOf y) i (y * W) W a (of-row y h) up c u v p
-        (subst (λ (f : ℕ → Bool). Moved up (hits f (i + y * W) a) u v) (sym (padded y h)) q))
+        (subst (λ (f : ℕ → Bool). CoverMoved up (hits f (i + y * W) a) u v) (sym (padded y h)) q))
 
-    pub band-last : (up : Bool) (y : ℕ) (c u : List ℕ) → y ≡ H - g .under → Moved up (hits (below (y * W) (inkAt W H s)) i a) c u
-        → Moved up (hits (below (W * H) (inkAt W H s)) i a) c u
+    pub band-last : (up : Bool) (y : ℕ) (c u : List ℕ) → y ≡ H - g .under → CoverMoved up (hits (below (y * W) (inkAt W H s)) i a) c u
+        → CoverMoved up (hits (below (W * H) (inkAt W H s)) i a) c u
     band-last up y c u e p =
-        subst (λ (f : ℕ → Bool). Moved up (hits f i a) c u) (ap (λ (n : ℕ). below (n * W) (inkAt W H s)) e ∙ fun-ext (λ k. ink-band W H r g s b k)) p
+        subst (λ (f : ℕ → Bool). CoverMoved up (hits f i a) c u) (ap (λ (n : ℕ). below (n * W) (inkAt W H s)) e ∙ fun-ext (λ k. ink-band W H r g s b k)) p
 
     -- ---- tested
 

@@ -23,8 +23,8 @@ use Rattle.morphology.proofs.PlaneLaws.{row-zeros}
 use Rattle.morphology.proofs.TestLaws.{T-ext, and-l, and-r, or-l, or-out, or-r}
 use Rattle.minimal.specs.Bands.{inkAt}
 use Rattle.minimal.specs.Covers.{Stays, counts, cover}
-use Rattle.minimal.specs.Moves.{Moved, Open, below, hits}
-use Rattle.minimal.specs.Sizes.{Counting, Shape, Tame, Without, before, coverTo}
+use Rattle.minimal.specs.Moves.{CoverMoved, Open, below, hits}
+use Rattle.minimal.specs.Sizes.{Counting, Shape, AllFit, Without, before, coverTo}
 use Rattle.minimal.proofs.CoverCountLaws.{count-split, covers-dilate, covers-none}
 use Rattle.minimal.proofs.SizeLaws.{shape-hits, shape-within}
 
@@ -190,7 +190,7 @@ module _ (W H : ℕ) (B : List Point) (m : List ℕ) where
     counting-at : (x : ℕ) → x < W * H → getD c x 0 ≡ coverTo W H B m n i (place W x)
     counting-at x h = ap (λ (s : List ℕ). getD s x 0) q ∙ getD-place W H (coverTo W H B m n i) x h
 
-    module _ (r p a : ℕ) (work : List ℕ) (s : Shape W H r p B n a work) (t : Tame W H B m) (h : i < W * H) where
+    module _ (r p a : ℕ) (work : List ℕ) (s : Shape W H r p B n a work) (t : AllFit W H B m) (h : i < W * H) where
       stays : getD m i 0 ≡ n + 1 → Stays W H B n i
       stays e = t .stays i n h (e ∙ add-one n)
 
@@ -205,7 +205,7 @@ module _ (W H : ℕ) (B : List Point) (m : List ℕ) where
             omega (arith, counting-at (i + k - a) l, cover-few n i (place W (i + k - a)), t .few);
       }
 
-      pub counting-next : (c′ : List ℕ) → Moved true (λ x. eqb (getD m i 0) (n + 1) && hits (below (W * H) (inkAt W H (take p work))) i a x) c c′
+      pub counting-next : (c′ : List ℕ) → CoverMoved true (λ x. eqb (getD m i 0) (n + 1) && hits (below (W * H) (inkAt W H (take p work))) i a x) c c′
           → Counting W H B m n (i + 1) c′
       counting-next c′ v =
           ext-getD 0 c′ (raster W H (coverTo W H B m n (i + 1))) (v .size ∙ counting-length ∙ sym (length-raster W H (coverTo W H B m n (i + 1)))) (λ x l.

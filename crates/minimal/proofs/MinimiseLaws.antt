@@ -22,7 +22,7 @@ use Rattle.refusals.proofs.SideLaws.{shaped, sides-frame}
 use Rattle.iteration.specs.Steps.{Sheet}
 use Rattle.iteration.proofs.StepLaws.{frame-sheet, sheet-bytes, work-cleared}
 use Rattle.minimal.specs.Minimised.{Passed, Shortened}
-use Rattle.minimal.specs.Sizes.{Begun, Left, Tame}
+use Rattle.minimal.specs.Sizes.{WalkBegun, Left, AllFit}
 
 -- ---- the rows of a call
 
@@ -54,7 +54,7 @@ module _ {W H e : ℕ} {m w c : List ℕ} (d : Passed W H e m w c) where
   pub passed-some : 0 < length m
   passed-some = subst (λ (n : ℕ). 0 < n) (sym (d .places)) (mul-pos (d .wide) (d .high))
 
-  passed-tame : Tame W H (offsets e) m
+  passed-tame : AllFit W H (offsets e) m
   passed-tame = record {
     places = d .places;
     few = passed-few;
@@ -62,7 +62,7 @@ module _ {W H e : ℕ} {m w c : List ℕ} (d : Passed W H e m w c) where
   }
 
   pub passed-begun : (a : ℕ) (u : List ℕ) → a < length m → getD m a 0 ≡ greatest m → getD m a 0 ≤ maxLabel → length u ≡ length w
-      → Begun W H ((W + 7) / 8) (H * ((W + 7) / 8)) e a (getD m a 0) m u
+      → WalkBegun W H ((W + 7) / 8) (H * ((W + 7) / 8)) e a (getD m a 0) m u
   passed-begun a u h g b l = record {
     sheet = passed-sheet;
     planes = omega (arith, d .planes, sheet-bytes passed-sheet);

@@ -12,7 +12,7 @@ use lib.ListN.{getD, length, length-set, set}
 use lib.Seq.{getD-set-other, getD-set-same}
 use Rattle.morphology.proofs.RefusalLaws.{false-of}
 use Rattle.morphology.proofs.TestLaws.{and-in, and-l, and-r}
-use Rattle.minimal.specs.Moves.{Free, Moved, Open, Tells, Twice, Within, below, counted, hits}
+use Rattle.minimal.specs.Moves.{Free, CoverMoved, Open, Tells, Twice, Within, below, counted, hits}
 
 -- ---- the first of f
 
@@ -52,11 +52,11 @@ pub counted-none : (up : Bool) (v : ℕ) → counted up false v ≡ v
 counted-none true v = omega arith
 counted-none false v = omega arith
 
-pub moved-none : (up : Bool) (f : ℕ → Bool) (at a : ℕ) (c : List ℕ) → ((k : ℕ) → f k ≡ false) → Moved up (hits f at a) c c
+pub moved-none : (up : Bool) (f : ℕ → Bool) (at a : ℕ) (c : List ℕ) → ((k : ℕ) → f k ≡ false) → CoverMoved up (hits f at a) c c
 moved-none up f at a c e =
     record { size = refl; places = λ x l. sym (ap (λ (b : Bool). counted up b (getD c x 0)) (hits-none f at a x e) ∙ counted-none up (getD c x 0)) }
 
-pub moved-start : (up : Bool) (f : ℕ → Bool) (at a : ℕ) (c : List ℕ) → Moved up (hits (below 0 f) at a) c c
+pub moved-start : (up : Bool) (f : ℕ → Bool) (at a : ℕ) (c : List ℕ) → CoverMoved up (hits (below 0 f) at a) c c
 moved-start up f at a c = moved-none up (below 0 f) at a c (λ k. below-out 0 f k (omega arith))
 
 pub twice-start : (f : ℕ → Bool) (at a : ℕ) (c : List ℕ) → Twice (below 0 f) at a c
@@ -83,7 +83,7 @@ pixel-slot up ink at a c e w =
     record { lower = r .0; inside = r .1; free = subst (λ (x : ℕ). Free up (getD c x 0)) z (w .free 0 t) }
 
 pub pixel-moved : (up ink : Bool) (at a v : ℕ) (c : List ℕ) → ink ≡ true → Slot up at a c → v ≡ counted up true (getD c (at - a) 0)
-    → Moved up (hits (below 1 (λ _. ink)) at a) c (set c (at - a) v)
+    → CoverMoved up (hits (below 1 (λ _. ink)) at a) c (set c (at - a) v)
 pixel-moved up ink at a v c e s q = record { size = length-set c (at - a) v; places = λ x l. by x (ℕ-discrete x (at - a)) }
   where
     f : ℕ → Bool
@@ -107,7 +107,7 @@ pixel-moved up ink at a v c e s q = record { size = length-set c (at - a) v; pla
         getD-set-other c (at - a) x v 0 z
         ∙ sym (ap (λ (b : Bool). counted up b (getD c x 0)) (far x z (decLt (x + a) at)) ∙ counted-none up (getD c x 0))
 
-pub pixel-still : (up ink : Bool) (at a : ℕ) (c : List ℕ) → ink ≡ false → Moved up (hits (below 1 (λ _. ink)) at a) c c
+pub pixel-still : (up ink : Bool) (at a : ℕ) (c : List ℕ) → ink ≡ false → CoverMoved up (hits (below 1 (λ _. ink)) at a) c c
 pixel-still up ink at a c e = moved-none up (below 1 (λ _. ink)) at a c (λ k. false-of (below 1 (λ _. ink) k) (λ t. subst T e (and-r (ltb k 1) ink t)))
 
 -- ---- g is F from o on, for m
@@ -132,8 +132,8 @@ module _ (F g : ℕ → Bool) (at o m a : ℕ) (e : (k : ℕ) → k < m → g k 
       below-T N F (o + k) (omega arith) (subst T (e k l) (and-r (ltb k m) (g k) t))
 
   -- moved, then g moved
-  pub moved-more : (up : Bool) (c u v : List ℕ) → Moved up (hits (below o F) at a) c u → Moved up (hits (below m g) (at + o) a) u v
-      → Moved up (hits (below (o + m) F) at a) c v
+  pub moved-more : (up : Bool) (c u v : List ℕ) → CoverMoved up (hits (below o F) at a) c u → CoverMoved up (hits (below m g) (at + o) a) u v
+      → CoverMoved up (hits (below (o + m) F) at a) c v
   moved-more up c u v p q = record { size = q .size ∙ p .size; places = λ x l. by x l (decLt (x + a) at) (decLt (x + a - at) o) }
     where
       twice : (x : ℕ) → x < length c → getD v x 0 ≡ counted up (hits (below m g) (at + o) a x) (counted up (hits (below o F) at a x) (getD c x 0))
@@ -167,7 +167,7 @@ module _ (F g : ℕ → Bool) (at o m a : ℕ) (e : (k : ℕ) → k < m → g k 
       (omega (arith, r .0), omega (arith, r .1))
 
   -- what is left is as it was
-  pub open-part : (up : Bool) (N : ℕ) (c u : List ℕ) → o + m ≤ N → Open up (below N F) at a c → Moved up (hits (below o F) at a) c u
+  pub open-part : (up : Bool) (N : ℕ) (c u : List ℕ) → o + m ≤ N → Open up (below N F) at a c → CoverMoved up (hits (below o F) at a) c u
       → Open up (below m g) (at + o) a u
   open-part up N c u h w p = record {
     within = λ k t. subst (λ (n : ℕ). (a ≤ at + o + k) × (at + o + k < a + n)) (sym (p .size)) (within-part N (length c) h (w .within) k t);
@@ -208,11 +208,11 @@ module _ (F g : ℕ → Bool) (at o m a : ℕ) (e : (k : ℕ) → k < m → g k 
 pub pixel-of : (F : ℕ → Bool) (o : ℕ) (ink : Bool) → ink ≡ F o → (k : ℕ) → k < 1 → ink ≡ F (o + k)
 pixel-of F o ink e k h = let z : o ≡ o + k = omega arith in e ∙ ap F z
 
-pub moved-end : (up : Bool) (F : ℕ → Bool) (at a o N : ℕ) (c u : List ℕ) → o ≡ N → Moved up (hits (below o F) at a) c u → Moved up (hits (below N F) at a) c u
-moved-end up F at a o N c u e p = subst (λ (n : ℕ). Moved up (hits (below n F) at a) c u) e p
+pub moved-end : (up : Bool) (F : ℕ → Bool) (at a o N : ℕ) (c u : List ℕ) → o ≡ N → CoverMoved up (hits (below o F) at a) c u → CoverMoved up (hits (below N F) at a) c u
+moved-end up F at a o N c u e p = subst (λ (n : ℕ). CoverMoved up (hits (below n F) at a) c u) e p
 
-pub moved-as : (up : Bool) (F G : ℕ → Bool) (at a n : ℕ) (c u : List ℕ) → F ≡ G → Moved up (hits (below n F) at a) c u → Moved up (hits (below n G) at a) c u
-moved-as up F G at a n c u e p = subst (λ (f : ℕ → Bool). Moved up (hits (below n f) at a) c u) e p
+pub moved-as : (up : Bool) (F G : ℕ → Bool) (at a n : ℕ) (c u : List ℕ) → F ≡ G → CoverMoved up (hits (below n F) at a) c u → CoverMoved up (hits (below n G) at a) c u
+moved-as up F G at a n c u e p = subst (λ (f : ℕ → Bool). CoverMoved up (hits (below n f) at a) c u) e p
 
 pub twice-end : (F : ℕ → Bool) (at a o N : ℕ) (c : List ℕ) → o ≡ N → Twice (below o F) at a c → Twice (below N F) at a c
 twice-end F at a o N c e p = subst (λ (n : ℕ). Twice (below n F) at a c) e p
@@ -254,8 +254,8 @@ twice-none F at a c e k t = absurd (subst T (e k) t)
 
 -- ---- moved where a test holds
 
-pub moved-when : (up b : Bool) (p : ℕ → Bool) (c u : List ℕ) → b ≡ true → Moved up p c u → Moved up (λ x. b && p x) c u
+pub moved-when : (up b : Bool) (p : ℕ → Bool) (c u : List ℕ) → b ≡ true → CoverMoved up p c u → CoverMoved up (λ x. b && p x) c u
 moved-when up b p c u e m = record { size = m .size; places = λ x l. m .places x l ∙ ap (λ (t : Bool). counted up (t && p x) (getD c x 0)) (sym e) }
 
-pub moved-unless : (up b : Bool) (p : ℕ → Bool) (c : List ℕ) → b ≡ false → Moved up (λ x. b && p x) c c
+pub moved-unless : (up b : Bool) (p : ℕ → Bool) (c : List ℕ) → b ≡ false → CoverMoved up (λ x. b && p x) c c
 moved-unless up b p c e = record { size = refl; places = λ x l. sym (ap (λ (t : Bool). counted up (t && p x) (getD c x 0)) e ∙ counted-none up (getD c x 0)) }

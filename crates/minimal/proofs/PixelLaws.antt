@@ -18,7 +18,7 @@ use Rattle.raster.specs.Rows.{rowBit}
 use Rattle.raster.proofs.ByteLaws.{zero-bit}
 use Rattle.raster.proofs.RowLaws.{row-in, rowBit-at}
 use Rattle.raster.proofs.PackLaws.{row-image}
-use Rattle.minimal.specs.Bands.{Banded, Blank, Margins, inkAt}
+use Rattle.minimal.specs.Bands.{InBand, Blank, Margins, inkAt}
 use Rattle.minimal.specs.declared.bands.Band.{Band}
 use Rattle.minimal.specs.Moves.{below}
 use Rattle.minimal.proofs.MoveLaws.{below-in, below-out, none-below}
@@ -50,7 +50,7 @@ module _ (s : List ℕ) (d r left right : ℕ) (m : Margins d r left right s) wh
           below-out (8 * right) row k (omega arith)
           ∙ sym (below-in (8 * r) row k e ∙ blank-bit s (d + right) (d + r) (8 * d + k) (m .end) (omega arith) (omega arith))
 
-module _ (W H r : ℕ) (g : Band) (s : List ℕ) (b : Banded W H r g s) where
+module _ (W H r : ℕ) (g : Band) (s : List ℕ) (b : InBand W H r g s) where
   -- ---- a row of the plane
 
   wide : W ≤ 8 * r

@@ -21,11 +21,11 @@ use Rattle.morphology.proofs.ReconstructLaws.{times-mono}
 use Rattle.morphology.proofs.TestLaws.{T-ext, and-in, and-l, and-r}
 use Rattle.iteration.specs.Steps.{First, dilated}
 use Rattle.iteration.proofs.StepLaws.{dilated-is, dilated-more, dilated-on, dilated-start, first-clean, first-image, sheet-bytes}
-use Rattle.minimal.specs.Bands.{Banded, Bounds, inkAt}
+use Rattle.minimal.specs.Bands.{InBand, Bounds, inkAt}
 use Rattle.minimal.specs.declared.bands.Band.{Band}
 use Rattle.minimal.specs.Covers.{Stays, single, spread}
 use Rattle.minimal.specs.Moves.{Within, below, hits}
-use Rattle.minimal.specs.Sizes.{Begun, Left, Shape}
+use Rattle.minimal.specs.Sizes.{WalkBegun, Left, Shape}
 use Rattle.minimal.proofs.CoverCountLaws.{spread-on}
 use Rattle.minimal.proofs.MoveLaws.{below-T}
 use Rattle.minimal.proofs.SpreadLaws.{spread-goes, spread-moved}
@@ -45,7 +45,7 @@ module _ (W H r p : ℕ) (B : List Point) (n a : ℕ) (work : List ℕ) (s : Sha
   pub plane-set : imageSet W H (take p work) ≡ spread W B n a
   plane-set = image-agree W H (take p work) work agree ∙ s .set
 
-  pub plane-banded : (g : Band) → Bounds H r g (take p work) → Banded W H r g (take p work)
+  pub plane-banded : (g : Band) → Bounds H r g (take p work) → InBand W H r g (take p work)
   plane-banded g b = record {
     frame = s .sheet .frame;
     bytes = plane-rows;
@@ -93,7 +93,7 @@ single-on W H a hw h = record {
       (lt→ltb (a / W) H (div-lt-iff-lt-mul {k = W} {x = a} {y = H} hw .1 (subst (λ (n : ℕ). a < n) (mul-comm W H) h)));
 }
 
-module _ (W H r p e a top : ℕ) (m work : List ℕ) (b : Begun W H r p e a top m work) where
+module _ (W H r p e a top : ℕ) (m work : List ℕ) (b : WalkBegun W H r p e a top m work) where
   -- the place's cover of a smaller size stays on the frame
   begun-stays : (n : ℕ) → n < top → Stays W H (offsets e) n a
   begun-stays n h c k =

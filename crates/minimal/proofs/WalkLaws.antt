@@ -21,22 +21,22 @@ use Rattle.morphology.proofs.RefusalLaws.{false-of}
 use Rattle.morphology.proofs.TestLaws.{T-ext, all-in, all-out, and-l, and-r, decide, or-l, or-out, or-r}
 use Rattle.minimal.specs.Bands.{inkAt}
 use Rattle.minimal.specs.Covers.{Stays, counts, spread}
-use Rattle.minimal.specs.Moves.{Moved, Open, Twice, Within, below, hits}
-use Rattle.minimal.specs.Sizes.{Shape, Tame, Without}
-use Rattle.minimal.specs.Walks.{Stepped, Walked}
+use Rattle.minimal.specs.Moves.{CoverMoved, Open, Twice, Within, below, hits}
+use Rattle.minimal.specs.Sizes.{Shape, AllFit, Without}
+use Rattle.minimal.specs.Walks.{StepDone, Walked}
 use Rattle.minimal.proofs.CoverCountLaws.{allTwice, counters-drop, counts-length, drop-turn, minimal-start, minimal-turn, size-start, size-turn}
 use Rattle.minimal.proofs.MoveLaws.{hits-at, moved-unless, moved-when, tells-no, tells-yes}
 use Rattle.minimal.proofs.SizeLaws.{shape-hits, shape-within}
 
 -- a map with fewer points
-pub tame-sub : (W H : ℕ) (B : List Point) (m m′ : List ℕ) → Tame W H B m → Sub m′ m → length m′ ≡ length m → Tame W H B m′
+pub tame-sub : (W H : ℕ) (B : List Point) (m m′ : List ℕ) → AllFit W H B m → Sub m′ m → length m′ ≡ length m → AllFit W H B m′
 tame-sub W H B m m′ t f e = record {
   places = e ∙ t .places;
   few = t .few;
   stays = λ i n h q. t .stays i n h (sub-label m′ m f i n q);
 }
 
-module _ (W H r p : ℕ) (B : List Point) (n a : ℕ) (work : List ℕ) (s : Shape W H r p B n a work) (m : List ℕ) (t : Tame W H B m) (i : ℕ) (h : i < W * H) where
+module _ (W H r p : ℕ) (B : List Point) (n a : ℕ) (work : List ℕ) (s : Shape W H r p B n a work) (m : List ℕ) (t : AllFit W H B m) (i : ℕ) (h : i < W * H) where
   abbrev moved : ℕ → Bool
   moved = below (W * H) (inkAt W H (take p work))
 
@@ -98,7 +98,7 @@ module _ (W H r p : ℕ) (B : List Point) (n a : ℕ) (work : List ℕ) (s : Sha
       pub counters : c′ ≡ counts W H B m′
       pub size : length m′ ≡ length m
 
-    pub step-next : (m′ c′ : List ℕ) → Stepped W H n a i (take p work) m c m′ c′ → Next m′ c′
+    pub step-next : (m′ c′ : List ℕ) → StepDone W H n a i (take p work) m c m′ c′ → Next m′ c′
     step-next m′ c′ d = go (d .gone) refl
       where
         at : (x : ℕ) → x < W * H → getD c′ x 0 ≡ getD c x 0 - cond (d .gone && hits moved i a x) 1 0
@@ -145,7 +145,7 @@ twice-open f i a c w t = record { within = w; free = λ k u. omega (arith, t k u
 -- ---- how a step ends
 
 module _ (W H n a i : ℕ) (s m c : List ℕ) where
-  pub stepped-still : (((getD m i 0 ≡ n + 1) × Twice (below (W * H) (inkAt W H s)) i a c) → ⊥) → Stepped W H n a i s m c m c
+  pub stepped-still : (((getD m i 0 ≡ n + 1) × Twice (below (W * H) (inkAt W H s)) i a c) → ⊥) → StepDone W H n a i s m c m c
   stepped-still f = record {
     gone = false;
     tells = tells-no f;
@@ -153,8 +153,8 @@ module _ (W H n a i : ℕ) (s m c : List ℕ) where
     counters = moved-unless false false (hits (below (W * H) (inkAt W H s)) i a) c refl;
   }
 
-  pub stepped-gone : (c′ : List ℕ) → getD m i 0 ≡ n + 1 → Twice (below (W * H) (inkAt W H s)) i a c → Moved false (hits (below (W * H) (inkAt W H s)) i a) c c′
-      → Stepped W H n a i s m c (set m i 0) c′
+  pub stepped-gone : (c′ : List ℕ) → getD m i 0 ≡ n + 1 → Twice (below (W * H) (inkAt W H s)) i a c → CoverMoved false (hits (below (W * H) (inkAt W H s)) i a) c c′
+      → StepDone W H n a i s m c (set m i 0) c′
   stepped-gone c′ e t v = record {
     gone = true;
     tells = tells-yes (e, t);
@@ -172,7 +172,7 @@ module _ (W H : ℕ) (B : List Point) (n : ℕ) (m₀ : List ℕ) where
   size-more i m m′ q e =
       e ∙ ap (λ (l : List ℕ). dropAt W H B n l i) q ∙ sym (size-turn W H B n i m₀) ∙ ap (λ (k : ℕ). dropSize W H B n (upTo k) m₀) (sym (add-one i))
 
-  pub size-tame : (i : ℕ) (m : List ℕ) → Tame W H B m₀ → m ≡ dropSize W H B n (upTo i) m₀ → length m ≡ length m₀ → Tame W H B m
+  pub size-tame : (i : ℕ) (m : List ℕ) → AllFit W H B m₀ → m ≡ dropSize W H B n (upTo i) m₀ → length m ≡ length m₀ → AllFit W H B m
   size-tame i m t q e = tame-sub W H B m₀ m t (subst (λ (l : List ℕ). Sub l m₀) (sym q) (size-sub W H B n (upTo i) m₀)) e
 
   -- places without a point of the size
@@ -202,7 +202,7 @@ module _ (W H : ℕ) (B : List Point) (m₀ : List ℕ) where
   below-more n m m′ c′ q w =
       w .labels ∙ ap (dropSize W H B n (upTo (W * H))) q ∙ sym (minimal-turn W H B n m₀) ∙ ap (λ (k : ℕ). minimalBelow k W H B m₀) (sym (add-one n))
 
-  pub below-tame : (n : ℕ) (m : List ℕ) → Tame W H B m₀ → m ≡ minimalBelow n W H B m₀ → length m ≡ length m₀ → Tame W H B m
+  pub below-tame : (n : ℕ) (m : List ℕ) → AllFit W H B m₀ → m ≡ minimalBelow n W H B m₀ → length m ≡ length m₀ → AllFit W H B m
   below-tame n m t q e = tame-sub W H B m₀ m t (subst (λ (l : List ℕ). Sub l m₀) (sym q) (minimal-sub W H B n m₀)) e
 
   -- all sizes up to the largest label's

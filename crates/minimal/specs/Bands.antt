@@ -48,7 +48,7 @@ pub record Bounds (H r : ℕ) (g : Band) (s : List ℕ) : Type 0 where
   pub end : Strip r (g .above) (H - g .under) (g .right) r s
 
 -- a plane and its band
-pub record Banded (W H r : ℕ) (g : Band) (s : List ℕ) : Type 0 where
+pub record InBand (W H r : ℕ) (g : Band) (s : List ℕ) : Type 0 where
   pub frame : Frame W H r
   pub bytes : H * r ≤ length s
   pub clean : T (isClean W H s)
@@ -56,7 +56,7 @@ pub record Banded (W H r : ℕ) (g : Band) (s : List ℕ) : Type 0 where
 
 -- a plane and its band, and a place i of the map m where a point of size n may stand
 pub record CoverAt (W H r : ℕ) (g : Band) (n i : ℕ) (m s : List ℕ) : Type 0 where
-  pub banded : Banded W H r g s
+  pub banded : InBand W H r g s
   pub place : i < length m
   pub near : i < 2 ^ 30
   pub size : n < 2 ^ 30

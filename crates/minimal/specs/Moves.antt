@@ -38,7 +38,7 @@ pub record Open (up : Bool) (f : ℕ → Bool) (at a : ℕ) (c : List ℕ) : Typ
   pub free : (k : ℕ) → T (f k) → Free up (getD c (at + k - a) 0)
 
 -- c with the counters of p counted up or down
-pub record Moved (up : Bool) (p : ℕ → Bool) (c c′ : List ℕ) : Type 0 where
+pub record CoverMoved (up : Bool) (p : ℕ → Bool) (c c′ : List ℕ) : Type 0 where
   pub size : length c′ ≡ length c
   pub places : (x : ℕ) → x < length c → getD c′ x 0 ≡ counted up (p x) (getD c x 0)
 

@@ -24,17 +24,17 @@ pub record Shape (W H r p : ℕ) (B : List Point) (n a : ℕ) (work : List ℕ) 
   pub stays : Stays W H B n a
 
 -- a map whose points stay on the frame, and counters for it
-pub record Tame (W H : ℕ) (B : List Point) (m : List ℕ) : Type 0 where
+pub record AllFit (W H : ℕ) (B : List Point) (m : List ℕ) : Type 0 where
   pub places : length m ≡ W * H
   pub few : W * H ≤ maxSide * maxSide
   pub stays : AllStay W H B m
 
 -- a map, a place a of its largest label, and work: minimisation can begin
-pub record Begun (W H r p e a top : ℕ) (m work : List ℕ) : Type 0 where
+pub record WalkBegun (W H r p e a top : ℕ) (m work : List ℕ) : Type 0 where
   pub sheet : Sheet W H r p
   pub planes : 2 * p ≤ length work
   pub element : T (isElement e)
-  pub tame : Tame W H (offsets e) m
+  pub tame : AllFit W H (offsets e) m
   pub place : a < W * H
   pub label : getD m a 0 ≡ top
   pub largest : greatest m ≡ top

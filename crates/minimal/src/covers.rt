@@ -6,8 +6,8 @@ ghost use Prim.Native.Nat.{_+_, _*_, _-_, _<_, _^_};
 ghost use lib.ListN.{length};
 ghost use Rattle.morphology.specs.Image.{bitOf};
 ghost use Rattle.raster.specs.Rows.{rowBit};
-ghost use Rattle.minimal.specs.Bands.{Banded, CoverRow, inkAt};
-ghost use Rattle.minimal.specs.Moves.{below, hits, Within, counted, Free, Open, Moved, Twice, Tells};
+ghost use Rattle.minimal.specs.Bands.{InBand, CoverRow, inkAt};
+ghost use Rattle.minimal.specs.Moves.{below, hits, Within, counted, Free, Open, CoverMoved, Twice, Tells};
 
 // A counter one up or one down.
 fn next(up: bool, v: u16) -> u16
@@ -23,7 +23,7 @@ fn next(up: bool, v: u16) -> u16
 // The counter of a pixel that is moved from a to at, where it is foreground.
 fn move_pixel(up: bool, ink: bool, at: usize, a: usize, counters: &mut [u16])
     requires { ⌜ Open up (below 1 (λ _. ink)) at a (now counters) ⌝ }
-    ensures { λ _. ⌜ Moved up (hits (below 1 (λ _. ink)) at a) (now (counters .entry)) (now (counters .exit)) ⌝ }
+    ensures { λ _. ⌜ CoverMoved up (hits (below 1 (λ _. ink)) at a) (now (counters .entry)) (now (counters .exit)) ⌝ }
 {
     if ink {
         let x = at - a;
@@ -34,7 +34,7 @@ fn move_pixel(up: bool, ink: bool, at: usize, a: usize, counters: &mut [u16])
 // The counters of a byte's eight pixels.
 fn move_bits(up: bool, b: u8, at: usize, a: usize, counters: &mut [u16])
     requires { ⌜ (at < 2 ^ 32) × Open up (below 8 (bitOf b)) at a (now counters) ⌝ }
-    ensures { λ _. ⌜ Moved up (hits (below 8 (bitOf b)) at a) (now (counters .entry)) (now (counters .exit)) ⌝ }
+    ensures { λ _. ⌜ CoverMoved up (hits (below 8 (bitOf b)) at a) (now (counters .entry)) (now (counters .exit)) ⌝ }
 {
     let mut k: usize = 0;
     while k < 8 {
@@ -46,7 +46,7 @@ fn move_bits(up: bool, b: u8, at: usize, a: usize, counters: &mut [u16])
 // The same; a blank byte is passed over, and a full one is known where it is compiled.
 fn move_byte(up: bool, b: u8, at: usize, a: usize, counters: &mut [u16])
     requires { ⌜ (at < 2 ^ 32) × Open up (below 8 (bitOf b)) at a (now counters) ⌝ }
-    ensures { λ _. ⌜ Moved up (hits (below 8 (bitOf b)) at a) (now (counters .entry)) (now (counters .exit)) ⌝ }
+    ensures { λ _. ⌜ CoverMoved up (hits (below 8 (bitOf b)) at a) (now (counters .entry)) (now (counters .exit)) ⌝ }
 {
     if b == 0 {
         return;
@@ -72,7 +72,7 @@ fn move_row(
 )
     requires { ⌜ CoverRow d r left right at (now plane)
         × Open up (below (8 * r) (λ k. rowBit (now plane) (8 * d + k))) at a (now counters) ⌝ }
-    ensures { λ _. ⌜ Moved up (hits (below (8 * r) (λ k. rowBit (now (plane .entry)) (8 * d + k))) at a) (now (counters .entry)) (now (counters .exit)) ⌝ }
+    ensures { λ _. ⌜ CoverMoved up (hits (below (8 * r) (λ k. rowBit (now (plane .entry)) (8 * d + k))) at a) (now (counters .entry)) (now (counters .exit)) ⌝ }
 {
     let mut j = left;
     while j < right {
@@ -93,8 +93,8 @@ pub fn move_cover(
     i: usize,
     counters: &mut [u16],
 )
-    requires { ⌜ Banded w h r band (now plane) × (i < 2 ^ 30) × Open up (below (w * h) (inkAt w h (now plane))) i a (now counters) ⌝ }
-    ensures { λ _. ⌜ Moved up (hits (below (w * h) (inkAt w h (now (plane .entry)))) i a) (now (counters .entry)) (now (counters .exit)) ⌝ }
+    requires { ⌜ InBand w h r band (now plane) × (i < 2 ^ 30) × Open up (below (w * h) (inkAt w h (now plane))) i a (now counters) ⌝ }
+    ensures { λ _. ⌜ CoverMoved up (hits (below (w * h) (inkAt w h (now (plane .entry)))) i a) (now (counters .entry)) (now (counters .exit)) ⌝ }
 {
     let end = h - band.under;
     let mut y = band.above;
@@ -189,7 +189,7 @@ pub fn is_twice(
     i: usize,
     counters: &[u16],
 ) -> bool
-    requires { ⌜ Banded w h r band (now plane) × (i < 2 ^ 30) × Within (below (w * h) (inkAt w h (now plane))) i a (length (now counters)) ⌝ }
+    requires { ⌜ InBand w h r band (now plane) × (i < 2 ^ 30) × Within (below (w * h) (inkAt w h (now plane))) i a (length (now counters)) ⌝ }
     ensures { λ t. ⌜ Tells t (Twice (below (w * h) (inkAt w h (now (plane .entry)))) i a (now (counters .entry))) ⌝ }
 {
     let end = h - band.under;

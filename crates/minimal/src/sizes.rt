@@ -17,8 +17,8 @@ ghost use Rattle.raster.specs.Frames.{Frame};
 ghost use Rattle.iteration.specs.Steps.{First};
 ghost use Rattle.minimal.specs.Bands.{CoverAt, inkAt};
 ghost use Rattle.minimal.specs.Covers.{single, counts};
-ghost use Rattle.minimal.specs.Moves.{below, hits, Open, Moved};
-ghost use Rattle.minimal.specs.Sizes.{Shape, Tame, Counting, Begun, Left};
+ghost use Rattle.minimal.specs.Moves.{below, hits, Open, CoverMoved};
+ghost use Rattle.minimal.specs.Sizes.{Shape, AllFit, Counting, WalkBegun, Left};
 
 // Counts up the cover of place i, where it has a point of size n: the plane's pixels moved from a to i.
 fn count_at(
@@ -35,7 +35,7 @@ fn count_at(
 )
     requires { ⌜ CoverAt w h r band n i (now labels) (now plane)
         × (getD (now labels) i 0 ≡ n + 1 → Open true (below (w * h) (inkAt w h (now plane))) i a (now counters)) ⌝ }
-    ensures { λ _. ⌜ Moved true (λ x. eqb (getD (now (labels .entry)) i 0) (n + 1) && hits (below (w * h) (inkAt w h (now (plane .entry)))) i a x)
+    ensures { λ _. ⌜ CoverMoved true (λ x. eqb (getD (now (labels .entry)) i 0) (n + 1) && hits (below (w * h) (inkAt w h (now (plane .entry)))) i a x)
         (now (counters .entry)) (now (counters .exit)) ⌝ }
 {
     if labels[i] as usize == n + 1 {
@@ -56,7 +56,7 @@ fn count_size(
     work: &mut [u8],
     counters: &mut [u16],
 )
-    requires { ⌜ Shape w h r p (offsets element) n a (now work) × Tame w h (offsets element) (now labels) × (n < maxLabel)
+    requires { ⌜ Shape w h r p (offsets element) n a (now work) × AllFit w h (offsets element) (now labels) × (n < maxLabel)
         × Counting w h (offsets element) (now labels) n 0 (now counters) ⌝ }
     ensures counters { λ _. ⌜ Counting w h (offsets element) (now (labels .entry)) (n + 1) 0 (now (counters .exit)) ⌝ }
     ensures work { λ _. ⌜ First w h p (clip w h (dilate (offsets element) (imageSet w h (now (work .entry))))) (now (work .entry)) (now (work .exit)) ⌝ }
@@ -138,7 +138,7 @@ pub fn count_up(
     work: &mut [u8],
     counters: &mut [u16],
 )
-    requires { ⌜ Begun w h r p element a top (now labels) (now work) × (length (now counters) ≡ w * h) ⌝ }
+    requires { ⌜ WalkBegun w h r p element a top (now labels) (now work) × (length (now counters) ≡ w * h) ⌝ }
     ensures counters { λ _. ⌜ now (counters .exit) ≡ counts w h (offsets element) (now (labels .entry)) ⌝ }
     ensures work { λ _. ⌜ Left p (now (work .entry)) (now (work .exit)) ⌝ }
 {

@@ -16,8 +16,8 @@ ghost use Rattle.iteration.specs.Steps.{First};
 ghost use Rattle.minimal.specs.Bands.{CoverAt, inkAt};
 ghost use Rattle.minimal.specs.Covers.{counts};
 ghost use Rattle.minimal.specs.Moves.{below, Within};
-ghost use Rattle.minimal.specs.Sizes.{Shape, Tame, Begun, Left};
-ghost use Rattle.minimal.specs.Walks.{Stepped, Walked};
+ghost use Rattle.minimal.specs.Sizes.{Shape, AllFit, WalkBegun, Left};
+ghost use Rattle.minimal.specs.Walks.{StepDone, Walked};
 
 // Drops the point of size n at place i, where each place of its cover counts two or more, and counts its cover down.
 fn step(
@@ -34,7 +34,7 @@ fn step(
 )
     requires { ⌜ CoverAt w h r band n i (now labels) (now plane)
         × (getD (now labels) i 0 ≡ n + 1 → Within (below (w * h) (inkAt w h (now plane))) i a (length (now counters))) ⌝ }
-    ensures { λ _. ⌜ Stepped w h n a i (now (plane .entry)) (now (labels .entry)) (now (counters .entry)) (now (labels .exit)) (now (counters .exit)) ⌝ }
+    ensures { λ _. ⌜ StepDone w h n a i (now (plane .entry)) (now (labels .entry)) (now (counters .entry)) (now (labels .exit)) (now (counters .exit)) ⌝ }
 {
     if labels[i] as usize != n + 1 {
         return;
@@ -59,7 +59,7 @@ fn walk_size(
     work: &mut [u8],
     counters: &mut [u16],
 )
-    requires { ⌜ Shape w h r p (offsets element) n a (now work) × Tame w h (offsets element) (now labels) × (n < maxLabel)
+    requires { ⌜ Shape w h r p (offsets element) n a (now work) × AllFit w h (offsets element) (now labels) × (n < maxLabel)
         × (now counters ≡ counts w h (offsets element) (now labels)) ⌝ }
     ensures walk { λ _. ⌜ Walked w h (offsets element) n (now (labels .entry)) (now (labels .exit)) (now (counters .exit)) ⌝ }
     ensures work { λ _. ⌜ First w h p (clip w h (dilate (offsets element) (imageSet w h (now (work .entry))))) (now (work .entry)) (now (work .exit)) ⌝ }
@@ -87,7 +87,7 @@ pub fn walk(
     work: &mut [u8],
     counters: &mut [u16],
 )
-    requires { ⌜ Begun w h r p element a top (now labels) (now work) × (now counters ≡ counts w h (offsets element) (now labels)) ⌝ }
+    requires { ⌜ WalkBegun w h r p element a top (now labels) (now work) × (now counters ≡ counts w h (offsets element) (now labels)) ⌝ }
     ensures labels { λ _. ⌜ now (labels .exit) ≡ minimalLabels w h (offsets element) (now (labels .entry)) ⌝ }
     ensures work { λ _. ⌜ Left p (now (work .entry)) (now (work .exit)) ⌝ }
 {

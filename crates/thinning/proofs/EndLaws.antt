@@ -18,7 +18,7 @@ use Rattle.raster.specs.Limits.{maxFrame}
 use Rattle.raster.specs.Frames.{Frame}
 use Rattle.iteration.proofs.StepLaws.{work-cleared}
 use Rattle.thinning.specs.Passes.{Ended, Leaves}
-use Rattle.thinning.proofs.ThinTurns.{Passed, passed-bound, passed-last, passed-start, passed-turn, plane-pass, thin-outcome}
+use Rattle.thinning.proofs.ThinTurns.{AfterPasses, passed-bound, passed-last, passed-start, passed-turn, plane-pass, thin-outcome}
 
 module _ (W H p : ℕ) where
   -- the area of a plane is the count of its ones
@@ -30,7 +30,7 @@ module _ (W H p : ℕ) where
 
   -- s thinned by n passes, none of them idle: t, with an area of l
   pub record Running (before : ℕ) (s t work work′ : List ℕ) (n l : ℕ) : Type 0 where
-    pub passed : Passed W H s n t
+    pub passed : AfterPasses W H s n t
     pub plane : Plane W H t
     pub left : l ≡ points W H t
     pub bound : n + l ≤ before
@@ -66,7 +66,7 @@ module _ (W H p : ℕ) where
 
     pub running-turn : k ≡ onesOf u → (k ≡ l → ⊥) → Running before s u work work″ (n + 1) k
     running-turn e f = record {
-      passed = subst (Passed W H s (n + 1)) (sym (b .image)) (passed-turn W H s n t (a .passed) (busy e f));
+      passed = subst (AfterPasses W H s (n + 1)) (sym (b .image)) (passed-turn W H s n t (a .passed) (busy e f));
       plane = pass-plane;
       left = counted u k pass-plane e;
       bound = omega (arith, passed-bound W H n before t (omega (arith, a .bound, a .left)) (busy e f), after e);

@@ -22,7 +22,7 @@ use Rattle.planes.proofs.CentreLaws.{near-itself, origin-less}
 use Rattle.neighbours.proofs.JoinLaws.{plane-more}
 use Rattle.planes.proofs.SetLaws.{near-image, neighbours-set}
 use Rattle.thinning.specs.Hits.{hits, widened}
-use Rattle.thinning.proofs.MaskLaws.{Accepted, mask-of}
+use Rattle.thinning.proofs.MaskLaws.{MaskParts, mask-of}
 
 -- what is asked of the foreground joined, then what is asked of the background
 pub both-asked : (r h fg bg : ℕ) (image u v w : List ℕ)
@@ -78,7 +78,7 @@ widened-centre m small c = digit m small 12 tt ∙ c
 -- ---- the plane of hits
 
 -- at a point, by the sets
-hits-set : (W H r fg bg : ℕ) (image : List ℕ) → r ≡ stride W → Accepted fg bg → T (isClean W H image) → (x y : ℕ)
+hits-set : (W H r fg bg : ℕ) (image : List ℕ) → r ≡ stride W → MaskParts fg bg → T (isClean W H image) → (x y : ℕ)
     → hits (widened fg) (widened bg) (nearBit image r H) x y ≡ hit (fg, bg) (imageSet W H image) (at (pos x) (pos y))
 unfolding hit erode
 hits-set W H r fg bg image q m clean x y =
@@ -104,7 +104,7 @@ hits-done W H r fg bg e b image old new f len t clean bytes qe qb qo a =
     S : Point → Bool
     S = imageSet W H image
 
-    m : Accepted fg bg
+    m : MaskParts fg bg
     m = mask-of fg bg t
 
     near : ℕ → ℕ → Bool

@@ -12,7 +12,7 @@ use Rattle.morphology.specs.Refusals.{row6}
 use Rattle.morphology.proofs.BitLaws.{bit-and, odd}
 use Rattle.morphology.proofs.TestLaws.{and-l, and-r, upto-out}
 
-pub record Accepted (fg bg : ℕ) : Type 0 where
+pub record MaskParts (fg bg : ℕ) : Type 0 where
   pub fg-small : fg < 512
   pub bg-small : bg < 512
   pub centre : fg / 16 % 2 ≡ 1
@@ -21,7 +21,7 @@ pub record Accepted (fg bg : ℕ) : Type 0 where
 abbrev apart : ℕ → ℕ → Bool
 apart fg bg = everyOf (λ i. not (bit fg i && bit bg i)) (upTo 9)
 
-pub mask-of : (fg bg : ℕ) → T (isMask (fg, bg)) → Accepted fg bg
+pub mask-of : (fg bg : ℕ) → T (isMask (fg, bg)) → MaskParts fg bg
 unfolding isMask
 mask-of fg bg t =
     let s = and-l (ltb fg (2 ^ 9) && ltb bg (2 ^ 9)) (bit fg 4 && apart fg bg) t in

@@ -66,16 +66,16 @@ module _ (W H : ℕ) where
   after n r = record { image = r .image; passes = n + r .passes }
 
   -- thinning s₀ is n passes, then thinning t
-  abbrev pub Passed : List ℕ → ℕ → List ℕ → Type 0
-  Passed s₀ n t = thinPasses (suc (points W H s₀)) W H s₀ ≡ after n (thinPasses (suc (points W H t)) W H t)
+  abbrev pub AfterPasses : List ℕ → ℕ → List ℕ → Type 0
+  AfterPasses s₀ n t = thinPasses (suc (points W H s₀)) W H s₀ ≡ after n (thinPasses (suc (points W H t)) W H t)
 
-  pub passed-start : (s : List ℕ) → Passed s 0 s
+  pub passed-start : (s : List ℕ) → AfterPasses s 0 s
   passed-start s =
       let r = thinPasses (suc (points W H s)) W H s in
       ap (counted r) (sym (zero-add (r .passes)))
 
   -- a pass that is not idle
-  pub passed-turn : (s₀ : List ℕ) (n : ℕ) (t : List ℕ) → Passed s₀ n t → (points W H t ≡ points W H (pass W H t) → ⊥) → Passed s₀ (n + 1) (pass W H t)
+  pub passed-turn : (s₀ : List ℕ) (n : ℕ) (t : List ℕ) → AfterPasses s₀ n t → (points W H t ≡ points W H (pass W H t) → ⊥) → AfterPasses s₀ (n + 1) (pass W H t)
   passed-turn s₀ n t q f = q ∙ ap (after n) (passes-suc W H (points W H t) t
       ∙ ap (ends W H t (thinPasses (points W H t) W H u)) (ne-eqb (points W H t) (points W H u) f)) ∙ one (points W H t) refl
     where
@@ -95,7 +95,7 @@ module _ (W H : ℕ) where
           ∙ shift (thinPasses (suc (points W H u)) W H u)
 
   -- the idle pass is the last one
-  pub passed-last : (s₀ : List ℕ) (n : ℕ) (t : List ℕ) → Passed s₀ n t → points W H t ≡ points W H (pass W H t)
+  pub passed-last : (s₀ : List ℕ) (n : ℕ) (t : List ℕ) → AfterPasses s₀ n t → points W H t ≡ points W H (pass W H t)
       → thinPasses (suc (points W H s₀)) W H s₀ ≡ record { image = pass W H t; passes = n + 1 }
   passed-last s₀ n t q e =
       let u = pass W H t in

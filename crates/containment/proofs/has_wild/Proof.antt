@@ -9,13 +9,13 @@ use denote.Ref.{now}
 use Rattle.morphology.specs.Element.{offsets}
 use Rattle.morphology.specs.Lists.{someOf, tabulate, upTo}
 use Rattle.morphology.proofs.ElementLaws.{element}
-use Rattle.containment.proofs.WildLaws.{Ready, part-limited, row-fits, rowWild, wild-last, wild-stop, wild-turn}
+use Rattle.containment.proofs.WildLaws.{Limited, part-limited, row-fits, rowWild, wild-last, wild-stop, wild-turn}
 use Rattle.containment.proofs.has_wild.Statement.{statement}
 use Rattle.containment.proofs.has_wild.Tie as tie
 
 abbrev Inv-loop : tie.InvT-loop
 Inv-loop w h element cut labels left right up down limits y₀ y =
-    (y ≤ h) × Ready w h (offsets element) cut labels left right up down limits × (someOf (rowWild w h (offsets element) cut labels) (upTo y) ≡ false)
+    (y ≤ h) × Limited w h (offsets element) cut labels left right up down limits × (someOf (rowWild w h (offsets element) cut labels) (upTo y) ≡ false)
 
 abbrev μ-loop : tie.MeasureT-loop
 μ-loop w h element cut labels left right up down limits y₀ y = h - y

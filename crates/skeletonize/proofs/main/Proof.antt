@@ -1,7 +1,7 @@
 -- `skeletonize::main` meets its contract: every part that it lends is within its buffer.
 use mathlib.Core.Path.{sym}
 use lib.Seq.{length-take-le}
-use Rattle.input.proofs.WithinLaws.{within-read}
+use Rattle.input.proofs.FilledLaws.{filled-read}
 use Rattle.listing.proofs.AppendLaws.{listed-within}
 use borrow.Author.Needs.{needs}
 use Rattle.skeletonize.proofs.main.Statement.{statement}
@@ -23,10 +23,10 @@ returns : tie.Need-returns
 returns c = search needs
 
 array-share-prefix-bytes : tie.Need-array-share-prefix-bytes
-array-share-prefix-bytes c = let r = c .before .before .before .before .read-all in within-read _ (c .before .read .given .1) (r .ensures) .0
+array-share-prefix-bytes c = let r = c .before .before .before .before .read-all in filled-read _ (c .before .read .given .1) (r .ensures) .0
 
 slice-aggregate-list : tie.Need-slice-aggregate-list
-slice-aggregate-list c = let r = c .before .before .before .before .before .read-all in within-read _ (c .before .before .read .given .1) (r .ensures) .1
+slice-aggregate-list c = let r = c .before .before .before .before .before .read-all in filled-read _ (c .before .before .read .given .1) (r .ensures) .1
 
 list-requires : tie.Need-list-requires
 list-requires c κs = search needs

@@ -7,7 +7,7 @@ use borrow.Author.Tests.{not-false, not-true}
 use denote.Ref.{now}
 use Rattle.minimal.specs.Bands.{inkAt}
 use Rattle.minimal.specs.Moves.{Twice, below}
-use Rattle.minimal.proofs.BandLaws.{band-twice-last, band-twice-more, band-twice-part, band-twice-start, band-within, margins, Room, room}
+use Rattle.minimal.proofs.BandLaws.{band-twice-last, band-twice-more, band-twice-part, band-twice-start, band-within, margins, BandRoom, room}
 use Rattle.minimal.proofs.MoveLaws.{tells-no, tells-yes}
 use Rattle.minimal.proofs.covers.is_twice.Statement.{statement}
 use Rattle.minimal.proofs.covers.is_twice.Tie as tie
@@ -27,7 +27,7 @@ inside : (c : tie.In-loop Inv-loop μ-loop) → c .before .loop .y < start (c .b
 inside c = omega (arith, c .before .loop .inv .2, c .loop-test .taken)
 
 fits : (c : tie.In-loop Inv-loop μ-loop)
-    → let s = start (c .before) in Room (s .args .w) (s .args .h) (s .args .r) (s .args .band) (now (s .args .plane)) (s .pre .0) (c .before .loop .y)
+    → let s = start (c .before) in BandRoom (s .args .w) (s .args .h) (s .args .r) (s .args .band) (now (s .args .plane)) (s .pre .0) (c .before .loop .y)
 fits c =
     let s = start (c .before) in
     room (s .args .w) (s .args .h) (s .args .r) (s .args .band) (now (s .args .plane)) (s .pre .0) (c .before .loop .y) (inside c)

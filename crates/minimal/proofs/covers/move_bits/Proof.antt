@@ -3,13 +3,13 @@ use Prim.Native.Nat.{_-_, _≤_}
 use native.Mathlib.Omega.{arith}
 use denote.Ref.{now}
 use Rattle.morphology.specs.Image.{bitOf}
-use Rattle.minimal.specs.Moves.{Moved, below, hits}
+use Rattle.minimal.specs.Moves.{CoverMoved, below, hits}
 use Rattle.minimal.proofs.MoveLaws.{moved-end, moved-more, moved-start, open-part, pixel-of}
 use Rattle.minimal.proofs.covers.move_bits.Statement.{statement}
 use Rattle.minimal.proofs.covers.move_bits.Tie as tie
 
 abbrev Inv-loop : tie.InvT-loop
-Inv-loop up b at a counters₀ k₀ counters k = (k ≤ 8) × Moved up (hits (below k (bitOf b)) at a) counters₀ counters
+Inv-loop up b at a counters₀ k₀ counters k = (k ≤ 8) × CoverMoved up (hits (below k (bitOf b)) at a) counters₀ counters
 
 abbrev μ-loop : tie.MeasureT-loop
 μ-loop up b at a counters₀ k₀ counters k = 8 - k

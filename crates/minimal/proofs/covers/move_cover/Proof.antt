@@ -5,14 +5,14 @@ use Prim.Native.Nat.{_*_, _-_, _<_, _≤_}
 use native.Mathlib.Omega.{arith}
 use denote.Ref.{now}
 use Rattle.minimal.specs.Bands.{inkAt}
-use Rattle.minimal.specs.Moves.{Moved, below, hits}
-use Rattle.minimal.proofs.BandLaws.{band-last, band-more, band-open, band-start, margins, Room, room}
+use Rattle.minimal.specs.Moves.{CoverMoved, below, hits}
+use Rattle.minimal.proofs.BandLaws.{band-last, band-more, band-open, band-start, margins, BandRoom, room}
 use Rattle.minimal.proofs.covers.move_cover.Statement.{statement}
 use Rattle.minimal.proofs.covers.move_cover.Tie as tie
 
 abbrev Inv-loop : tie.InvT-loop
 Inv-loop up plane w h r band a i counters₀ end y₀ counters y =
-    (band .above ≤ y) × (y ≤ h - band .under) × (end ≡ h - band .under) × Moved up (hits (below (y * w) (inkAt w h plane)) i a) counters₀ counters
+    (band .above ≤ y) × (y ≤ h - band .under) × (end ≡ h - band .under) × CoverMoved up (hits (below (y * w) (inkAt w h plane)) i a) counters₀ counters
 
 abbrev μ-loop : tie.MeasureT-loop
 μ-loop up plane w h r band a i counters₀ end y₀ counters y = end - y
@@ -28,7 +28,7 @@ inside : (c : tie.In-loop Inv-loop μ-loop) → c .before .loop .y < start (c .b
 inside c = omega (arith, c .before .loop .inv .2, c .loop-test .taken)
 
 fits : (c : tie.In-loop Inv-loop μ-loop)
-    → let s = start (c .before .before) in Room (s .args .w) (s .args .h) (s .args .r) (s .args .band) (now (s .args .plane)) (s .pre .0) (c .before .loop .y)
+    → let s = start (c .before .before) in BandRoom (s .args .w) (s .args .h) (s .args .r) (s .args .band) (now (s .args .plane)) (s .pre .0) (c .before .loop .y)
 fits c =
     let s = start (c .before .before) in
     room (s .args .w) (s .args .h) (s .args .r) (s .args .band) (now (s .args .plane)) (s .pre .0) (c .before .loop .y) (inside c)

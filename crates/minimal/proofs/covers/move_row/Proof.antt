@@ -8,7 +8,7 @@ use denote.Ref.{now}
 use lib.ListN.{getD}
 use Rattle.morphology.specs.Image.{bitOf}
 use Rattle.raster.specs.Rows.{rowBit}
-use Rattle.minimal.specs.Moves.{Moved, below, hits}
+use Rattle.minimal.specs.Moves.{CoverMoved, below, hits}
 use Rattle.minimal.proofs.MoveLaws.{moved-end, moved-more, moved-none, open-part}
 use Rattle.minimal.proofs.PixelLaws.{byte-of, margin-end, margin-start}
 use Rattle.minimal.proofs.covers.move_row.Statement.{statement}
@@ -16,7 +16,7 @@ use Rattle.minimal.proofs.covers.move_row.Tie as tie
 
 abbrev Inv-loop : tie.InvT-loop
 Inv-loop up plane d r left right at a counters₀ j₀ counters j =
-    (j ≤ right) × Moved up (hits (below (8 * j) (λ k. rowBit plane (8 * d + k))) at a) counters₀ counters
+    (j ≤ right) × CoverMoved up (hits (below (8 * j) (λ k. rowBit plane (8 * d + k))) at a) counters₀ counters
 
 abbrev μ-loop : tie.MeasureT-loop
 μ-loop up plane d r left right at a counters₀ j₀ counters j = right - j
@@ -104,7 +104,7 @@ returns c =
     let a = s .args in
     let l = c .before .loop in
     let F : ℕ → Bool = λ k. rowBit (now (a .plane)) (8 * a .d + k) in
-    subst (λ (f : ℕ → Bool). Moved (a .up) (hits f (a .at) (a .a)) (now (a .counters)) (l .counters))
+    subst (λ (f : ℕ → Bool). CoverMoved (a .up) (hits f (a .at) (a .a)) (now (a .counters)) (l .counters))
     (fun-ext (margin-end (now (a .plane)) (a .d) (a .r) (a .left) (a .right) (s .pre .0 .margins)))
     (moved-end (a .up) F (a .at) (a .a) (8 * l .j) (8 * a .right) (now (a .counters)) (l .counters) (omega (arith, l .inv .0, c .loop-test .left)) (l .inv .1))
 

@@ -7,7 +7,7 @@ use borrow.Author.Needs.{needs}
 use denote.Ref.{now}
 use lib.ListN.{length, take}
 use Rattle.morphology.specs.Element.{offsets}
-use Rattle.minimal.specs.Bands.{Banded}
+use Rattle.minimal.specs.Bands.{InBand}
 use Rattle.minimal.specs.Sizes.{Counting, Without}
 use Rattle.minimal.proofs.CountingLaws.{counting-gap, counting-length, counting-next, counting-open, counting-size}
 use Rattle.minimal.proofs.SizeLaws.{plane-banded, plane-rows, plane-size}
@@ -16,7 +16,7 @@ use Rattle.minimal.proofs.sizes.count_size.Tie as tie
 
 abbrev Inv-loop : tie.InvT-loop
 Inv-loop w h r p element a n labels work counters₀ band v i₀ counters i =
-    (v ≡ n + 1) × (i ≤ length labels) × Banded w h r band (take p work) × Counting w h (offsets element) labels n i counters
+    (v ≡ n + 1) × (i ≤ length labels) × InBand w h r band (take p work) × Counting w h (offsets element) labels n i counters
 
 abbrev μ-loop : tie.MeasureT-loop
 μ-loop w h r p element a n labels work counters₀ band v i₀ counters i = length labels - i

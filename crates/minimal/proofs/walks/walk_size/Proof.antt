@@ -9,9 +9,9 @@ use lib.ListN.{length, take}
 use Rattle.morphology.specs.Element.{offsets}
 use Rattle.morphology.specs.Lists.{upTo}
 use Rattle.morphology.specs.Minimal.{dropSize}
-use Rattle.minimal.specs.Bands.{Banded}
+use Rattle.minimal.specs.Bands.{InBand}
 use Rattle.minimal.specs.Covers.{counts}
-use Rattle.minimal.specs.Sizes.{Tame}
+use Rattle.minimal.specs.Sizes.{AllFit}
 use Rattle.minimal.proofs.CoverCountLaws.{counts-length}
 use Rattle.minimal.proofs.SizeLaws.{plane-banded, plane-rows, plane-size}
 use Rattle.minimal.proofs.WalkLaws.{size-begin, size-gap, size-more, size-tame, step-next, step-within}
@@ -20,7 +20,7 @@ use Rattle.minimal.proofs.walks.walk_size.Tie as tie
 
 abbrev Inv-loop : tie.InvT-loop
 Inv-loop w h r p element a n labels₀ work counters₀ band v i₀ labels counters i =
-    (v ≡ n + 1) × (i ≤ length labels₀) × Banded w h r band (take p work) × (length labels ≡ length labels₀)
+    (v ≡ n + 1) × (i ≤ length labels₀) × InBand w h r band (take p work) × (length labels ≡ length labels₀)
     × (labels ≡ dropSize w h (offsets element) n (upTo i) labels₀) × (counters ≡ counts w h (offsets element) labels)
 
 abbrev μ-loop : tie.MeasureT-loop
@@ -43,7 +43,7 @@ placed : (c : tie.In-loop Inv-loop μ-loop) → c .before .loop .i < start (c .b
 placed c = omega (arith, c .loop-test .taken, c .before .loop .inv .3, start (c .before) .pre .1 .places)
 
 -- the map is still one whose points stay
-tame : (c : tie.At-loop Inv-loop μ-loop) → Tame (start c .args .w) (start c .args .h) (offsets (start c .args .element)) (c .loop .labels)
+tame : (c : tie.At-loop Inv-loop μ-loop) → AllFit (start c .args .w) (start c .args .h) (offsets (start c .args .element)) (c .loop .labels)
 tame c =
     let s = start c in
     let a = s .args in

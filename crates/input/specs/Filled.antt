@@ -6,6 +6,6 @@ use Rattle.input.specs.declared.Input.{Input}
 use Rattle.input.specs.declared.Input.the-variants.{Failed, Read}
 
 -- a count is that of bytes at the start of the buffer
-abbrev pub Within : Input → List ℕ → Type 0
-Within (Read n) buf = Counts n buf
-Within Failed buf = Unit
+abbrev pub Filled : Input → List ℕ → Type 0
+Filled (Read n) buf = Counts n buf
+Filled Failed buf = Unit

@@ -3,9 +3,9 @@ use mathlib.Core.List.{List}
 use mathlib.Core.Path.{_≡_, subst}
 use Prim.Native.Nat.{ℕ}
 use Rattle.io.specs.Counts.{Counts}
-use Rattle.input.specs.Within.{Within}
+use Rattle.input.specs.Filled.{Filled}
 use Rattle.input.specs.declared.Input.{Input}
 use Rattle.input.specs.declared.Input.the-variants.{Read}
 
-pub within-read : {r : Input} {n : ℕ} (buf : List ℕ) → r ≡ Read n → Within r buf → Counts n buf
-within-read buf e w = subst (λ (r : Input). Within r buf) e w
+pub filled-read : {r : Input} {n : ℕ} (buf : List ℕ) → r ≡ Read n → Filled r buf → Counts n buf
+filled-read buf e w = subst (λ (r : Input). Filled r buf) e w
