@@ -202,10 +202,6 @@ ready W H image out work f i o w c = record {
   clean = T-of-not (isClean W H image) c;
 }
 
--- an image that is ready, copied into the first plane
-pub ready-sheet : {W H : ℕ} {image out work : List ℕ} → Ready W H image out work → Sheet W H ((W + 7) / 8) (H * ((W + 7) / 8))
-ready-sheet d = frame-sheet (d .frame)
-
 pub record Loaded (W H : ℕ) (image work v : List ℕ) : Type 0 where
   pub size : length v ≡ length work
   pub clean : T (isClean W H v)

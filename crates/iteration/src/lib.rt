@@ -26,7 +26,7 @@ fn erode_step(w: usize, h: usize, r: usize, p: usize, element: u32, work: &mut [
 
 // The first plane dilated in place, by way of the second, and clipped at the frame.
 pub fn dilate_step(w: usize, h: usize, r: usize, p: usize, element: u32, work: &mut [u8])
-    requires { ⌜ Sheet w h r p × (2 * p ≤ length (now work)) × T (isClean w h (now work)) ⌝ }
+    requires { ⌜ Sheet w h r p × (2 * p ≤ length (now work)) × T (isElement element) × T (isClean w h (now work)) ⌝ }
     ensures { λ _. ⌜ First w h p (clip w h (dilateSet (offsets element) (imageSet w h (now (work .entry))))) (now (work .entry)) (now (work .exit)) ⌝ }
 {
     planes::dilate_plane(w, h, r, p, element, work);
@@ -50,7 +50,7 @@ pub fn erode_times(w: usize, h: usize, r: usize, p: usize, element: u32, n: u32,
 
 // The first plane dilated n times in place; not at all where it is empty.
 pub fn dilate_times(w: usize, h: usize, r: usize, p: usize, element: u32, n: u32, work: &mut [u8])
-    requires { ⌜ Sheet w h r p × (2 * p ≤ length (now work)) × T (isClean w h (now work)) ⌝ }
+    requires { ⌜ Sheet w h r p × (2 * p ≤ length (now work)) × T (isElement element) × T (isClean w h (now work)) ⌝ }
     ensures { λ _. ⌜ First w h p (dilated w h (offsets element) n (imageSet w h (now (work .entry)))) (now (work .entry)) (now (work .exit)) ⌝ }
 {
     if !raster::has_ink(&work[..p]) {

@@ -17,6 +17,7 @@ use Rattle.morphology.specs.Image.{bitOf, fromBits, imageSet, isClean, stride}
 use Rattle.morphology.specs.Labels.{labelAt}
 use Rattle.morphology.specs.Lists.{greatest, someOf}
 use Rattle.morphology.specs.Point.{at}
+use Rattle.morphology.proofs.RefusalLaws.{or-out-false}
 use Rattle.morphology.proofs.CountLaws.{digit}
 use Rattle.morphology.proofs.ImageLaws.{bit-fromBits, bits-of, fromBits-lt}
 use Rattle.raster.specs.Rows.{Pixelwise, PlaneIs, RowIs, rowBit}
@@ -176,16 +177,8 @@ label-none row v x e = by (decLt x (length row))
   where
     no-label : (l : List ℕ) (x : ℕ) → x < length l → someOf (λ b. eqb b v) l ≡ false → eqb (getD l x 0) v ≡ false
     no-label [] x h q = absurd (omega arith)
-    no-label (b ∷ l) zero h q = left (eqb b v) (someOf (λ b. eqb b v) l) q
-      where
-        left : (c d : Bool) → (c || d) ≡ false → c ≡ false
-        left true d q = q
-        left false d q = refl
-    no-label (b ∷ l) (suc x) h q = no-label l x (omega arith) (right (eqb b v) (someOf (λ b. eqb b v) l) q)
-      where
-        right : (c d : Bool) → (c || d) ≡ false → d ≡ false
-        right true d q = absurd (subst T q tt)
-        right false d q = q
+    no-label (b ∷ l) zero h q = or-out-false (eqb b v) (someOf (λ b. eqb b v) l) q .0
+    no-label (b ∷ l) (suc x) h q = no-label l x (omega arith) (or-out-false (eqb b v) (someOf (λ b. eqb b v) l) q .1)
 
     by : Dec (x < length row) → isLabel row v x ≡ false
     by (yes l) = in-label row v x l ∙ no-label row x l e

@@ -6,9 +6,9 @@ use crate::places;
 ghost use mathlib.Core.Path.{_≡_};
 ghost use mathlib.Core.Bool.{true, cond, not, _&&_};
 ghost use Prim.Native.Nat.{_+_, _*_, _<_, _≤_, _^_};
-ghost use lib.Dec.{eqb};
+ghost use lib.Dec.{T, eqb};
 ghost use lib.ListN.{length, getD, replicate};
-ghost use Rattle.morphology.specs.Element.{offsets};
+ghost use Rattle.morphology.specs.Element.{isElement, offsets};
 ghost use Rattle.morphology.specs.Image.{imageSet, clip};
 ghost use Rattle.morphology.specs.Labels.{maxLabel, pointsOf};
 ghost use Rattle.morphology.specs.Lists.{greatest};
@@ -57,7 +57,7 @@ fn count_size(
     counters: &mut [u16],
 )
     requires { ⌜ Shape w h r p (offsets element) n a (now work) × AllFit w h (offsets element) (now labels) × (n < maxLabel)
-        × Counting w h (offsets element) (now labels) n 0 (now counters) ⌝ }
+        × Counting w h (offsets element) (now labels) n 0 (now counters) × T (isElement element) ⌝ }
     ensures counters { λ _. ⌜ Counting w h (offsets element) (now (labels .entry)) (n + 1) 0 (now (counters .exit)) ⌝ }
     ensures work { λ _. ⌜ First w h p (clip w h (dilate (offsets element) (imageSet w h (now (work .entry))))) (now (work .entry)) (now (work .exit)) ⌝ }
 {

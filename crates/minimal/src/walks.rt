@@ -7,7 +7,8 @@ use crate::sizes;
 ghost use mathlib.Core.Path.{_≡_};
 ghost use Prim.Native.Nat.{_+_, _*_, _<_};
 ghost use lib.ListN.{length, getD};
-ghost use Rattle.morphology.specs.Element.{offsets};
+ghost use lib.Dec.{T};
+ghost use Rattle.morphology.specs.Element.{isElement, offsets};
 ghost use Rattle.morphology.specs.Image.{imageSet, clip};
 ghost use Rattle.morphology.specs.Labels.{maxLabel};
 ghost use Rattle.morphology.specs.Minimal.{minimalLabels};
@@ -60,7 +61,7 @@ fn walk_size(
     counters: &mut [u16],
 )
     requires { ⌜ Shape w h r p (offsets element) n a (now work) × AllFit w h (offsets element) (now labels) × (n < maxLabel)
-        × (now counters ≡ counts w h (offsets element) (now labels)) ⌝ }
+        × (now counters ≡ counts w h (offsets element) (now labels)) × T (isElement element) ⌝ }
     ensures walk { λ _. ⌜ Walked w h (offsets element) n (now (labels .entry)) (now (labels .exit)) (now (counters .exit)) ⌝ }
     ensures work { λ _. ⌜ First w h p (clip w h (dilate (offsets element) (imageSet w h (now (work .entry))))) (now (work .entry)) (now (work .exit)) ⌝ }
 {

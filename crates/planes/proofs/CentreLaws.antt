@@ -1,23 +1,19 @@
 -- An element without its origin, and what the origin asks; a plane begun, joined and cut off.
 use mathlib.Core.Bool.{Bool, _&&_, cond, false, not, true}
-use mathlib.Core.List.{List, _++_}
+use mathlib.Core.List.{List}
 use mathlib.Core.Path.{_∙_, _≡_, ap, ap₂, refl, sym}
 use Prim.Native.Nat.{_%_, _*_, _+_, _-_, _/_, _<_, _^_, _≤_, suc, zero, ℕ}
 use native.Mathlib.Decide.{decLt}
 use native.Mathlib.Nat.{le-refl}
 use native.Mathlib.Omega.{arith}
 use borrow.Author.Tests.{le-leb, lt-ltb}
-use lib.Dec.{eqb, ltb}
-use lib.ListN.{drop, getD-replicate, length, length-replicate, replicate, take}
+use lib.Dec.{T, eqb, eqb→eq, ltb}
 use Rattle.morphology.specs.Element.{bit}
-use Rattle.morphology.specs.Image.{bitOf}
 use Rattle.raster.specs.Rows.{PlaneIs, RowIs, join, rowBit}
-use Rattle.raster.proofs.ByteLaws.{full-bit}
-use Rattle.raster.proofs.PartLaws.{PartIs, part-back, part-bit}
 use Rattle.raster.proofs.RowLaws.{row-in}
 use Rattle.neighbours.specs.Neighbours.{PlaneJoined, fiveOf, joined, nearBit, neighbours, turned}
-use Rattle.planes.specs.Begun.{Begun, startByte}
-use Rattle.neighbours.proofs.NeighbourLaws.{below5, join-assoc, join-comm, join-unit, joined-same, near-same, unit-join, zeros-bit}
+use Rattle.planes.specs.Begun.{Begun}
+use Rattle.neighbours.proofs.NeighbourLaws.{below5, join-assoc, join-comm, join-unit, joined-same, near-same}
 
 -- v joined at q alone
 joined-add : (t : Bool) (n q : ℕ) (v : Bool) (f g : ℕ → Bool) → q < n → ((i : ℕ) → i < n → (i ≡ q → ⊥) → f i ≡ g i) → f q ≡ join t v (g q)
@@ -131,6 +127,10 @@ near-itself plane r h x y ly lx =
     let ex : x + 8 - 8 ≡ x = omega arith in
     simp (le-leb 2 (y + 2) (omega arith), ey, lt-ltb y h ly, le-leb 8 (x + 8) (omega arith), lt-ltb (x + 8) (8 * r + 8) (omega arith), ex)
 
+-- the origin's bit
+pub origin-bit : (e : ℕ) → T (bit e 12) → e / 4096 % 2 ≡ 1
+origin-bit e t = eqb→eq (e / 2 ^ 12 % 2) 1 t
+
 -- a plane begun with the first one
 pub begun-copy : (t : Bool) (p r h e n : ℕ) (old new : List ℕ) → n ≡ h * r → e / 4096 % 2 ≡ 1 → RowIs p n old new (rowBit old)
     → Begun t p r h e (e - 4096) old new
@@ -145,42 +145,6 @@ begun-copy t p r h e n old new en o m = record {
       (ap (rowBit new) z ∙ m .pixels (8 * (y * r) + x) (omega (arith, i)) ∙ sym (near-itself old r h x y ly lx))
       ∙ origin-less t e (nearBit old r h) x y o;
 }
-
--- a plane begun with what changes nothing
-pub begun-start : (t : Bool) (p r h e : ℕ) (old new : List ℕ) → PlaneIs p r h old new (λ y x. not t) → Begun t p r h e e old new
-begun-start t p r h e old new m = record {
-  size = m .size;
-  before = m .before;
-  after = m .after;
-  pixels = λ y x ly lx.
-      ap (λ (b : Bool). join t b (neighbours t e (nearBit old r h) x y)) (m .pixels y x ly lx) ∙ unit-join t (neighbours t e (nearBit old r h) x y);
-}
-
--- ---- begun with what changes nothing
-
-full-row : (n x : ℕ) → x < 8 * n → rowBit (replicate n 255) x ≡ true
-unfolding rowBit
-full-row n x h = ap (λ (v : ℕ). bitOf v (x % 8)) (getD-replicate n (x / 8) 255 0 (omega arith)) ∙ full-bit (x % 8) (omega arith)
-
-pub start-bit : (t : Bool) (n x : ℕ) → x < 8 * n → rowBit (replicate n (startByte t)) x ≡ not t
-start-bit true n x h = zeros-bit n x
-start-bit false n x h = full-row n x h
-
--- h rows of r bytes, a part of k bytes, begun
-pub plane-started : (t : Bool) (p r h k n v : ℕ) (old ys : List ℕ) → k ≡ h * r → p + h * r ≤ length old → n ≡ k → v ≡ startByte t → ys ≡ replicate n v
-    → PlaneIs p r h old (take p old ++ (ys ++ drop k (drop p old))) (λ y x. not t)
-plane-started t p r h k n v old ys q hp hn hv m =
-    let a : PartIs p k old ys (take p old ++ (ys ++ drop k (drop p old))) = part-back p k old ys (omega arith) (ap length m ∙ length-replicate {A = ℕ} n v ∙ hn) in
-    record {
-      size = a .size;
-      before = a .before;
-      after = λ j l. a .after j (omega arith);
-      pixels = λ y x ly lx.
-          let i = row-in y h r (h * r) ly (le-refl (h * r)) in
-          let z : 8 * (p + y * r) + x ≡ 8 * p + (8 * (y * r) + x) = omega arith in
-          ap (rowBit (take p old ++ (ys ++ drop k (drop p old)))) z ∙ part-bit a (8 * (y * r) + x) (omega (arith, i))
-          ∙ ap (λ (s : List ℕ). rowBit s (8 * (y * r) + x)) (m ∙ ap (replicate n) hv) ∙ start-bit t n (8 * (y * r) + x) (omega (arith, i));
-    }
 
 -- a plane begun, joined and cut off
 pub plane-done : (t : Bool) (p r h w e rest : ℕ) (v₀ v₁ v₂ v₃ : List ℕ) → h * r ≤ p → Begun t p r h e rest v₀ v₁

@@ -1,16 +1,11 @@
 -- A plane on its way from a copy of another to its erosion or dilation. Definitions only; proofs/CentreLaws.antt has the laws.
-use mathlib.Core.Bool.{Bool, false, true}
+use mathlib.Core.Bool.{Bool}
 use mathlib.Core.List.{List}
 use mathlib.Core.Path.{_≡_}
 use Prim.Native.Nat.{_*_, _+_, _<_, _≤_, ℕ}
 use lib.ListN.{getD, length}
 use Rattle.raster.specs.Rows.{join, rowBit}
 use Rattle.neighbours.specs.Neighbours.{nearBit, neighbours}
-
--- the byte of eight pixels that change nothing when they are joined
-abbrev pub startByte : Bool → ℕ
-startByte true = 0
-startByte false = 255
 
 -- new is old but for the h rows of r bytes at p; when what rest asks of old is joined to them they are what the element asks
 pub record Begun (t : Bool) (p r h element rest : ℕ) (old new : List ℕ) : Type 0 where

@@ -1,6 +1,6 @@
 // One erosion, dilation or opening of a plane in the lent work.
 ghost use mathlib.Core.Path.{_≡_};
-ghost use mathlib.Core.Bool.{_&&_};
+ghost use mathlib.Core.Bool.{Bool, _&&_};
 ghost use Prim.Native.Nat.{_+_, _*_, _<_, _≤_};
 ghost use lib.Dec.{ltb, T};
 ghost use lib.ListN.{length};
@@ -11,30 +11,15 @@ ghost use Rattle.raster.specs.Limits.{maxFrame, maxStride};
 ghost use Rattle.raster.specs.Rows.{PlaneIs, overwrite, rowBit};
 ghost use Rattle.raster.specs.Frames.{Frame};
 ghost use Rattle.neighbours.specs.Neighbours.{nearBit, neighbours};
-ghost use Rattle.planes.specs.Begun.{startByte, Begun};
+ghost use Rattle.planes.specs.Begun.{Begun};
 
-// What a row begins with: background before a dilation, foreground before an erosion.
-fn start(dilating: bool) -> u8
-    ensures { λ v. ⌜ v ≡ startByte dilating ⌝ }
+// Begins the plane at p, for an erosion or a dilation, with the first plane, which the element's origin asks for. The rest of the element is returned.
+fn begin_plane(work: &mut [u8], p: usize, r: usize, h: usize, element: u32) -> u32
+    requires { ⌜ (h * r ≤ p) × (p + h * r ≤ length (now work)) × T (bit element 12) ⌝ }
+    ensures { λ rest. ⌜ ((t : Bool) → Begun t p r h element rest (now (work .entry)) (now (work .exit))) ⌝ }
 {
-    if dilating {
-        return 0;
-    }
-    255
-}
-
-// Begins the plane at p: where the element has its origin, with the first plane, which the origin asks for. The rest of the element is returned.
-fn begin_plane(dilating: bool, work: &mut [u8], p: usize, r: usize, h: usize, element: u32) -> u32
-    requires { ⌜ (h * r ≤ p) × (p + h * r ≤ length (now work)) ⌝ }
-    ensures { λ rest. ⌜ Begun dilating p r h element rest (now (work .entry)) (now (work .exit)) ⌝ }
-{
-    if element / elements::ORIGIN % 2 == 1 {
-        raster::copy_up(work, p, h * r);
-        return element - elements::ORIGIN;
-    }
-    let end = p + h * r;
-    raster::fill(&mut work[p..end], start(dilating));
-    element
+    raster::copy_up(work, p, h * r);
+    element - elements::ORIGIN
 }
 
 // Clears the padding of h rows at p.
@@ -60,11 +45,12 @@ fn morph_plane(
     h: usize,
     element: u32,
 )
-    requires { ⌜ (h * r ≤ p) × (p + h * r ≤ length (now work)) × (w ≤ 8 * r) × (8 * r < w + 8) × (0 < r) × (r ≤ maxStride) × (h ≤ maxFrame) ⌝ }
+    requires { ⌜ (h * r ≤ p) × (p + h * r ≤ length (now work)) × (w ≤ 8 * r) × (8 * r < w + 8) × (0 < r) × (r ≤ maxStride) × (h ≤ maxFrame)
+        × T (bit element 12) ⌝ }
     ensures { λ _. ⌜ PlaneIs p r h (now (work .entry)) (now (work .exit))
         (λ y x. neighbours dilating element (nearBit (now (work .entry)) r h) x y && ltb x w) ⌝ }
 {
-    let rest = begin_plane(dilating, work, p, r, h, element);
+    let rest = begin_plane(work, p, r, h, element);
     let none = [0u8; 1];
     neighbours::join_plane(dilating, false, true, &none, work, p, r, h, rest);
     clear_rows(work, p, w, r, h);
@@ -80,7 +66,7 @@ pub fn erode_plane(w: usize, h: usize, r: usize, p: usize, element: u32, work: &
 
 // The first plane of work, dilated into the one at p and clipped at the frame.
 pub fn dilate_plane(w: usize, h: usize, r: usize, p: usize, element: u32, work: &mut [u8])
-    requires { ⌜ Frame w h r × (h * r ≤ p) × (p + h * r ≤ length (now work)) × T (isClean w h (now work)) ⌝ }
+    requires { ⌜ Frame w h r × (h * r ≤ p) × (p + h * r ≤ length (now work)) × T (bit element 12) × T (isClean w h (now work)) ⌝ }
     ensures { λ _. ⌜ now (work .exit) ≡ overwrite p (pack w h (clip w h (dilate (offsets element) (imageSet w h (now (work .entry)))))) (now (work .entry)) ⌝ }
 {
     morph_plane(true, work, p, w, r, h, element);

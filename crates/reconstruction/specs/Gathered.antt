@@ -24,8 +24,9 @@ abbrev pub grown : ℕ → ℕ → List Point → List ℕ → ℕ → List ℕ 
 grown W H B m v plane z = eqb (labelAt W H m z) v || dilated W H B 1 (imageSet W H plane) z
 
 -- what is there when the points with label v are joined: labels, each row's largest not above v, two planes, of which the first is clean
-pub record GrowStart (W H r p v : ℕ) (m t work : List ℕ) : Type 0 where
+pub record GrowStart (W H r p e v : ℕ) (m t work : List ℕ) : Type 0 where
   pub sheet : Sheet W H r p
+  pub element : T (isElement e)
   pub planes : 2 * p ≤ length work
   pub label : 0 < v
   pub places : length m ≡ W * H

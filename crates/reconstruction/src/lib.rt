@@ -21,7 +21,7 @@ fn grow(
     tops: &mut [u8],
     work: &mut [u8],
 )
-    requires { ⌜ GrowStart w h r p v (now labels) (now tops) (now work) ⌝ }
+    requires { ⌜ GrowStart w h r p element v (now labels) (now tops) (now work) ⌝ }
     ensures work { λ _. ⌜ First w h p (grown w h (offsets element) (now (labels .entry)) v (now (work .entry))) (now (work .entry)) (now (work .exit)) ⌝ }
     ensures tops { λ _. ⌜ Tops w h (v - 1) (now (labels .entry)) (now (tops .exit)) ⌝ }
 {

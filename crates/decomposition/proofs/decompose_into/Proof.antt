@@ -8,7 +8,7 @@ use denote.Ref.{now}
 use lib.ListN.{replicate}
 use lib.Seq.{length-take-le}
 use Rattle.decomposition.proofs.TurnLaws.{finished-as}
-use Rattle.iteration.proofs.StepLaws.{loaded, ready-sheet, rest-cleared, sheet-bytes, sheet-small}
+use Rattle.iteration.proofs.StepLaws.{frame-sheet, loaded, rest-cleared, sheet-bytes, sheet-small}
 use Rattle.decomposition.proofs.decompose_into.Statement.{statement}
 use Rattle.decomposition.proofs.decompose_into.Tie as tie
 
@@ -28,7 +28,7 @@ mul-p : tie.Need-mul-p
 mul-p c =
     let s = start c in
     let a = s .args in
-    let k = ready-sheet (s .pre .0) in
+    let k = frame-sheet (s .pre .0 .frame) in
     let q = sheet-bytes k in
     let p = a .h * ((a .w + 7) / 8) in
     omega (arith, sheet-small k)
@@ -37,7 +37,7 @@ slice-relend-prefix-copy : tie.Need-slice-relend-prefix-copy
 slice-relend-prefix-copy c =
     let s = start c in
     let a = s .args in
-    let k = ready-sheet (s .pre .0) in
+    let k = frame-sheet (s .pre .0 .frame) in
     let q = sheet-bytes k in
     let p = a .h * ((a .w + 7) / 8) in
     omega (arith, s .pre .0 .work, q)
@@ -46,7 +46,7 @@ slice-aggregate-copy : tie.Need-slice-aggregate-copy
 slice-aggregate-copy c =
     let s = start (c .before) in
     let a = s .args in
-    let k = ready-sheet (s .pre .0) in
+    let k = frame-sheet (s .pre .0 .frame) in
     let q = sheet-bytes k in
     let p = a .h * ((a .w + 7) / 8) in
     sym (length-take-le p (now (a .work)) (omega (arith, s .pre .0 .work, q)))
@@ -55,7 +55,7 @@ copy-requires : tie.Need-copy-requires
 copy-requires c κs =
     let s = start (c .before) in
     let a = s .args in
-    let k = ready-sheet (s .pre .0) in
+    let k = frame-sheet (s .pre .0 .frame) in
     let q = sheet-bytes k in
     let p = a .h * ((a .w + 7) / 8) in
     s .pre .0 .image ∙ sym q ∙ sym (length-take-le p (now (a .work)) (omega (arith, s .pre .0 .work, q)))
@@ -69,7 +69,7 @@ take-turns-requires c κs =
     let at-copy = to-copy c in
     let s = start (at-copy .before .before) in
     let a = s .args in
-    let k = ready-sheet (s .pre .0) in
+    let k = frame-sheet (s .pre .0 .frame) in
     let q = sheet-bytes k in
     let p = a .h * ((a .w + 7) / 8) in
     let v = loaded (a .w) (a .h) p (now (a .image)) (now (a .image)) (now (a .work)) _ q (s .pre .0) (at-copy .copy .ensures) in (
@@ -88,7 +88,7 @@ clear-work-requires c κs =
     let at-copy = to-copy (at-take-turns .before) in
     let s = start (at-copy .before .before) in
     let a = s .args in
-    let k = ready-sheet (s .pre .0) in
+    let k = frame-sheet (s .pre .0 .frame) in
     let q = sheet-bytes k in
     let p = a .h * ((a .w + 7) / 8) in
     let v = loaded (a .w) (a .h) p (now (a .image)) (now (a .image)) (now (a .work)) _ q (s .pre .0) (at-copy .copy .ensures) in
@@ -107,7 +107,7 @@ returns c =
     let at-copy = to-copy (at-take-turns .before) in
     let s = start (at-copy .before .before) in
     let a = s .args in
-    let k = ready-sheet (s .pre .0) in
+    let k = frame-sheet (s .pre .0 .frame) in
     let q = sheet-bytes k in
     let p = a .h * ((a .w + 7) / 8) in
     let v = loaded (a .w) (a .h) p (now (a .image)) (now (a .image)) (now (a .work)) _ q (s .pre .0) (at-copy .copy .ensures) in

@@ -2,6 +2,7 @@
 use native.Mathlib.Omega.{arith}
 use borrow.Author.Needs.{needs}
 use denote.Ref.{now}
+use Rattle.morphology.proofs.ElementLaws.{element-bit}
 use Rattle.iteration.proofs.StepLaws.{sheet-bytes, step-done}
 use Rattle.iteration.proofs.dilate_step.Statement.{statement}
 use Rattle.iteration.proofs.dilate_step.Tie as tie
@@ -9,7 +10,7 @@ use Rattle.iteration.proofs.dilate_step.Tie as tie
 dilate-plane-requires : tie.Need-dilate-plane-requires
 dilate-plane-requires c κs =
     let s = c .before .before in
-    (s .pre .0 .frame, omega (arith, s .pre .0 .plane), omega (arith, s .pre .0 .plane, s .pre .1), s .pre .2)
+    (s .pre .0 .frame, omega (arith, s .pre .0 .plane), omega (arith, s .pre .0 .plane, s .pre .1), element-bit _ (s .pre .2), s .pre .3)
 
 copy-down-requires : tie.Need-copy-down-requires
 copy-down-requires c κs = search needs

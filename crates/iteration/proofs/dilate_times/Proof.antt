@@ -46,7 +46,7 @@ returns c =
     let q = sheet-bytes (s .pre .0) in
     dilated-rest (a .w) (a .h) (a .p) (offsets (a .element)) (a .n) X (now (a .work)) (now (a .work)) q (image-on (a .w) (a .h) (now (a .work)))
     (omega (arith, s .pre .1))
-    (first-start (a .w) (a .h) (a .p) (now (a .work)) q (s .pre .1) (λ i. at-slice-known .slice-known .given i .fits) (s .pre .2))
+    (first-start (a .w) (a .h) (a .p) (now (a .work)) q (s .pre .1) (λ i. at-slice-known .slice-known .given i .fits) (s .pre .3))
     (sym (c .before .has-ink .ensures) ∙ not-true _ (c .if1 .taken))
 
 loop-holds : tie.Need-loop-holds Inv-loop μ-loop
@@ -58,7 +58,7 @@ loop-holds c =
       omega arith,
       dilated-start (a .w) (a .h) (a .p) (offsets (a .element)) X (now (a .work)) (now (a .work))
           (first-start (a .w) (a .h) (a .p) (now (a .work)) (sheet-bytes (s .pre .0)) (s .pre .1) (λ i. at-slice-known .slice-known .given i .fits)
-          (s .pre .2)),
+          (s .pre .3)),
     )
 
 dilate-step-requires : tie.Need-dilate-step-requires Inv-loop μ-loop
@@ -70,6 +70,7 @@ dilate-step-requires c κs =
     let X = imageSet (a .w) (a .h) (now (a .work)) in (
       s .pre .0,
       omega (arith, l .inv .1 .size, s .pre .1),
+      s .pre .2,
       first-clean (sheet-bytes (s .pre .0)) (dilated-on (a .w) (a .h) (offsets (a .element)) (l .j) X (image-on (a .w) (a .h) (now (a .work)))) (l .inv .1),
     )
 

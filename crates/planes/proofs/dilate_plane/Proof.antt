@@ -11,7 +11,7 @@ morph-plane-requires : tie.Need-morph-plane-requires
 morph-plane-requires c κs =
     let q = c .before .before .pre in
     let f = frame-row (q .0) in
-    (q .1, q .2, f .0, f .1, f .2, f .3, q .0 .down)
+    (q .1, q .2, f .0, f .1, f .2, f .3, q .0 .down, q .3)
 
 same-length : tie.Need-same-length
 same-length c = search needs
@@ -20,7 +20,7 @@ returns : tie.Need-returns
 returns c =
     let s = c .before .before .before .before .before in
     let a = s .args in
-    plane-done true (a .w) (a .h) (a .r) (a .p) (a .element) (now (a .work)) _ (s .pre .0) (s .pre .2) (s .pre .3) (λ i. c .slice-known2 .given i .fits) (c .before .before .morph-plane .ensures)
+    plane-done true (a .w) (a .h) (a .r) (a .p) (a .element) (now (a .work)) _ (s .pre .0) (s .pre .2) (s .pre .4) (λ i. c .slice-known2 .given i .fits) (c .before .before .morph-plane .ensures)
 
 pub dilate-plane-spec : {M : Type 1} → statement M
 dilate-plane-spec = tie.close (tie.spec morph-plane-requires same-length returns)

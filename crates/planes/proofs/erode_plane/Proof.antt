@@ -10,7 +10,7 @@ morph-plane-requires : tie.Need-morph-plane-requires
 morph-plane-requires c κs =
     let q = c .before .before .pre in
     let f = frame-row (q .0) in
-    (q .1, q .2, f .0, f .1, f .2, f .3, q .0 .down)
+    (q .1, q .2, f .0, f .1, f .2, f .3, q .0 .down, q .3)
 
 same-length : tie.Need-same-length
 same-length c = search needs

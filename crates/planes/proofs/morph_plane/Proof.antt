@@ -24,7 +24,7 @@ returns : tie.Need-returns
 returns c =
     let s = c .before .before .before .before .before .before .before .before .before .before .before .before .before .before in
     let a = s .args in
-    plane-done (a .dilating) (a .p) (a .r) (a .h) (a .w) (a .element) _ (now (a .work)) _ _ _ (s .pre .0) (c .before .before .before .before .before .before .before .before .before .before .before .begin-plane .ensures) (c .before .before .before .before .before .before .join-plane .ensures) (c .before .before .clear-rows .ensures)
+    plane-done (a .dilating) (a .p) (a .r) (a .h) (a .w) (a .element) _ (now (a .work)) _ _ _ (s .pre .0) (c .before .before .before .before .before .before .before .before .before .before .before .begin-plane .ensures (a .dilating)) (c .before .before .before .before .before .before .join-plane .ensures) (c .before .before .clear-rows .ensures)
 
 pub morph-plane-spec : {M : Type 1} → statement M
 morph-plane-spec =

@@ -27,6 +27,7 @@ dilate-plane-requires c κs =
       s .pre .0,
       s .pre .1,
       rest-long (a .w) (a .h) (a .r) (a .p) (a .element) (now (a .work)) v _ (s .pre .0) (s .pre .1) (s .pre .2) (s .pre .3) e refl,
+      s .pre .3,
       rest-clean (a .w) (a .h) (a .r) (a .p) (a .element) (now (a .work)) v _ (s .pre .0) (s .pre .1) (s .pre .2) (s .pre .3) e refl,
     )
 

@@ -89,6 +89,7 @@ grow-requires c κs =
     let l = at-loop .loop in
     record {
       sheet = s .pre .0;
+      element = s .pre .2 .element;
       planes = omega (arith, s .pre .1, l .inv .1 .size);
       label = omega (arith, in-loop .loop-test .taken);
       places = s .pre .2 .places;

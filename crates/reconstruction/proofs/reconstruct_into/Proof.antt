@@ -72,6 +72,7 @@ dilate-times-requires c κs =
     let g = at-gather .gather .ensures in (
       frame-sheet (s .pre .frame),
       omega (arith, v .size, g .size, s .pre .work, q),
+      s .pre .labels .element,
       gathered-cleans (a .w) (a .h) p (a .element) (a .cut) q (now (a .labels)) (s .pre .labels) _ _ g,
     )
 

@@ -66,8 +66,12 @@ dilate-times-requires c κs =
     let q = sheet-bytes k in
     let v = loaded (a .w) (a .h) (a .h * ((a .w + 7) / 8)) (now (a .image)) (now (a .out)) (now (a .work)) _ q (s .pre .0) (b .copy .ensures) in
     let m = d .erode-times .ensures in
-    let el = element (a .element) (s .pre .1) in
-    (k, omega (arith, v .size, m .size, s .pre .0 .work, q), first-clean q (eroded-on (a .w) (a .h) (offsets (a .element)) el _ (image-on (a .w) (a .h) _) (a .erosions)) m)
+    let el = element (a .element) (s .pre .1) in (
+      k,
+      omega (arith, v .size, m .size, s .pre .0 .work, q),
+      s .pre .1,
+      first-clean q (eroded-on (a .w) (a .h) (offsets (a .element)) el _ (image-on (a .w) (a .h) _) (a .erosions)) m,
+    )
 
 hand-out-requires : tie.Need-hand-out-requires
 hand-out-requires c κs =

@@ -67,6 +67,7 @@ count-size-requires c κs =
       b .tame,
       omega (arith, b .fits, t),
       l .inv .2,
+      b .element,
     )
 
 add-n : tie.Need-add-n Inv-loop μ-loop

@@ -64,6 +64,7 @@ walk-size-requires c κs =
       below-tame (a .w) (a .h) (offsets (a .element)) (now (a .labels)) (l .n) (l .labels) (b .tame) (l .inv .3) (l .inv .2),
       omega (arith, b .fits, t),
       l .inv .4,
+      b .element,
     )
 
 add-n : tie.Need-add-n Inv-loop μ-loop
