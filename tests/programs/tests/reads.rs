@@ -119,8 +119,8 @@ fn an_interrupted_read_is_made_again() {
 }
 
 /// Stops a program that waits in a read, and lets it go on. On a socket with a limit to its
-/// patience Linux then fails the read with EINTR, as signal(7) has it, and the program that
-/// reads again has made one read more.
+/// patience Linux then fails the read with EINTR, as signal(7) has it, and a program that reads
+/// again has made more reads.
 fn interrupt(child: &Child) {
     asleep(child);
     let before = reads(child);
@@ -129,7 +129,7 @@ fn interrupt(child: &Child) {
     signal(child, "CONT");
     asleep(child);
     if let (Some(before), Some(after)) = (before, reads(child)) {
-        assert_eq!(after, before + 1, "one read is interrupted");
+        assert!(after > before, "a read is interrupted and made again");
     }
 }
 
