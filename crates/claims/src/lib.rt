@@ -1,0 +1,1 @@
+// No code: specs/ has the claims as statements, proofs/ a proof of each.

@@ -1,0 +1,1 @@
+// No code: specs/ has the definitions of document 01, proofs/ their laws.

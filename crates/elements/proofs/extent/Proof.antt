@@ -1,4 +1,5 @@
 -- `elements::extent` meets its contract.
+-- The invariant: rest is the element without its lowest i bits, and far is how far the offsets of those bits go. The measure is 25 less i.
 use mathlib.Core.Path.{_∙_, _≡_, ap}
 use Prim.Native.Nat.{_-_, _/_, _^_, _≤_, ℕ}
 use native.Mathlib.Omega.{arith}

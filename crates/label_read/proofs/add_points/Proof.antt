@@ -1,4 +1,5 @@
 -- `label_read::add_points` meets its contract.
+-- The invariant: of the first y rows the points with label v are joined to the plane, and each of their tops is the largest label below v. The measure is the rows left.
 use Rattle.label_read.proofs.add_points.Statement.{statement}
 use mathlib.Core.Bool.{Bool, _||_}
 use mathlib.Core.Path.{_∙_, _≡_, ap, subst}

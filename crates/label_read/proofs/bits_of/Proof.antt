@@ -1,4 +1,5 @@
 -- `label_read::bits_of` meets its contract.
+-- The invariant: b has a bit for each of the first i labels, 1 where it is v. The measure is the labels left.
 use mathlib.Core.Path.{_∙_, _≡_, ap, refl, sym}
 use Prim.Native.Nat.{_*_, _+_, _-_, _≤_, ℕ}
 use native.Mathlib.Omega.{arith}

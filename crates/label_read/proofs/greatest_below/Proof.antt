@@ -1,4 +1,5 @@
 -- `label_read::greatest_below` meets its contract.
+-- The invariant: m is the largest of the first i labels that is below v. The measure is the labels left.
 use mathlib.Core.Path.{_∙_, _≡_, ap, refl}
 use Prim.Native.Nat.{_-_, _≤_, max, ℕ}
 use native.Mathlib.Omega.{arith}

@@ -1,4 +1,5 @@
 -- `label_read::has_label` meets its contract.
+-- The invariant: seen is not 0 exactly where one of the first i labels is v. The measure is the labels left.
 use mathlib.Core.Bool.{not}
 use mathlib.Core.Path.{_∙_, _≡_, ap, refl}
 use Prim.Native.Nat.{_-_, _≤_, ℕ}

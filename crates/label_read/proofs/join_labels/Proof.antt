@@ -1,4 +1,5 @@
 -- `label_read::join_labels` meets its contract.
+-- The invariant: in each of the first i bytes the points with label v are joined. The measure is the bytes left.
 use mathlib.Core.Path.{ap₂}
 use Prim.Native.Nat.{_*_, _-_, _≤_}
 use native.Mathlib.Omega.{arith}

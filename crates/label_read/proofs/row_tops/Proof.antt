@@ -1,4 +1,5 @@
 -- `label_read::row_tops` meets its contract.
+-- The invariant: each of the first y tops is the largest label of its row. The measure is the rows left.
 use Rattle.label_read.proofs.row_tops.Statement.{statement}
 use mathlib.Core.Path.{_∙_, _≡_, ap}
 use Prim.Native.Nat.{_*_, _+_, _-_, _≤_, ℕ}

@@ -1,4 +1,5 @@
 -- `label_write::label_bytes` meets its contract.
+-- The invariant: the first x labels, whole bytes of pixels, are v where the first row has what the second lacks, and n counts these. The measure is the labels left.
 use Rattle.label_write.proofs.label_bytes.Statement.{statement}
 use mathlib.Core.Path.{_∙_, _≡_, subst}
 use Prim.Native.Nat.{_%_, _+_, _-_, _/_, _≤_, ℕ}

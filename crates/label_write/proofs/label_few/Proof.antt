@@ -1,4 +1,5 @@
 -- `label_write::label_few` meets its contract.
+-- The invariant: each of the first x labels is v where its bit is 1, and as it was where it is not. The measure is the labels left.
 use mathlib.Core.Bool.{Bool, cond}
 use mathlib.Core.Path.{_∙_, ap, ap₂}
 use Prim.Native.Nat.{_-_, _≤_, ℕ}

@@ -1,4 +1,5 @@
 -- `label_write::label_plane` meets its contract.
+-- The invariant: the labels of the first y rows are written and counted in n. The measure is the rows left.
 use Prim.Native.Nat.{_-_, _≤_}
 use native.Mathlib.Nat.{mul-comm, mul-le-mul-right}
 use native.Mathlib.Omega.{arith}

@@ -1,4 +1,5 @@
 -- `label_write::label_rows` meets its contract.
+-- The invariant: the labels of the rows from y up to i are written and counted in n, whatever the height. The measure is the rows left of the block.
 use mathlib.Core.Path.{_∙_, subst, sym}
 use Prim.Native.Nat.{_*_, _+_, _-_, _≤_, ℕ}
 use native.Mathlib.Nat.{le-refl, mul-le-mul-right}

@@ -1,4 +1,5 @@
 -- `planes::clear_rows` meets its contract.
+-- The invariant: the padding of the first y rows is cleared, and nothing else is changed. The measure is the rows left.
 use mathlib.Core.Bool.{_&&_}
 use mathlib.Core.Path.{_≡_, subst}
 use Prim.Native.Nat.{_*_, _+_, _-_, _≤_, ℕ}

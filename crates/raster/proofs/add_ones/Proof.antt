@@ -1,4 +1,5 @@
 -- `raster::add_ones` meets its contract.
+-- The invariant: to each of the first i sums the ones of its byte are added. The measure is the sums left.
 use mathlib.Core.Path.{ap}
 use Prim.Native.Nat.{_+_, _-_, _≤_, ℕ}
 use native.Mathlib.Omega.{arith}

@@ -1,4 +1,5 @@
 -- `raster::copy` meets its contract.
+-- The invariant: the first i bytes are copied. The measure is the bytes left.
 use Prim.Native.Nat.{_-_, _≤_}
 use Rattle.raster.proofs.CountLaws.{copied}
 use Rattle.raster.proofs.LoopLaws.{Mapped, mapped-more, mapped-none}

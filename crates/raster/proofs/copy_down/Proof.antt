@@ -1,4 +1,5 @@
 -- `raster::copy_down` meets its contract.
+-- The invariant: the first i bytes are those from p on. The measure is the bytes left.
 use mathlib.Core.Path.{_≡_, subst}
 use Prim.Native.Nat.{_+_, _-_, _≤_}
 use native.Mathlib.Omega.{arith}

@@ -1,4 +1,5 @@
 -- `raster::copy_up` meets its contract.
+-- The invariant: the i bytes from p on are the first i. The measure is the bytes left.
 use mathlib.Core.Path.{_≡_, subst}
 use Prim.Native.Nat.{_-_, _≤_, ℕ}
 use native.Mathlib.Omega.{arith}

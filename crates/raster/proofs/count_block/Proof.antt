@@ -1,4 +1,5 @@
 -- `raster::count_block` meets its contract.
+-- The invariant: the 64 sums add up to the ones of the first i bytes, and none is above i / 8. The measure is the bytes left.
 use mathlib.Core.Path.{_∙_, _≡_, ap, ap₂, refl, subst, sym}
 use Prim.Native.Nat.{_*_, _+_, _-_, _/_, _≤_, ℕ}
 use native.Mathlib.Omega.{arith}

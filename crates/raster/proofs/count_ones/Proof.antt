@@ -1,4 +1,5 @@
 -- `raster::count_ones` meets its contract.
+-- The invariant: n is the ones of the first i bytes, at most nine for each, which is enough to fit. The measure is the bytes left.
 use mathlib.Core.Path.{_∙_, _≡_, ap, ap₂, refl, sym}
 use Prim.Native.Nat.{_*_, _+_, _-_, _≤_, ℕ}
 use native.Mathlib.Omega.{arith}

@@ -1,4 +1,5 @@
 -- `raster::fill` meets its contract.
+-- The invariant: the first i bytes are v, and the rest is as it was. The measure is the bytes left.
 use mathlib.Core.Path.{_∙_, _≡_, ap, refl}
 use mathlib.Core.List.{List, _++_}
 use Prim.Native.Nat.{_-_, _≤_, ℕ}

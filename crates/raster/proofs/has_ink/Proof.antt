@@ -1,4 +1,5 @@
 -- `raster::has_ink` meets its contract.
+-- The invariant: seen is not 0 exactly where one of the first i bytes is not. The measure is the bytes left.
 use Prim.Native.Nat.{_-_, _≤_, ℕ}
 use Rattle.morphology.specs.Lists.{someOf}
 use Rattle.raster.proofs.CountLaws.{ink-more}

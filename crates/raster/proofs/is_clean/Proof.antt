@@ -1,4 +1,5 @@
 -- `raster::is_clean` meets its contract.
+-- The invariant: the padding of each of the first y rows is 0. The measure is the rows left.
 use Prim.Native.Nat.{_%_, _*_, _-_, _^_, _≤_, ℕ}
 use Rattle.morphology.specs.Lists.{everyOf, upTo}
 use Rattle.morphology.specs.Lists.{tabulate}

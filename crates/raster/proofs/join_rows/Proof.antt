@@ -1,4 +1,5 @@
 -- `raster::join_rows` meets its contract.
+-- The invariant: to each of the first i bytes that of the source, inverted or not, is joined. The measure is the bytes left.
 use denote.Ref.{now}
 use native.Mathlib.Omega.{arith}
 use borrow.Author.Needs.{needs}

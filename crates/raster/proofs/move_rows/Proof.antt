@@ -1,4 +1,5 @@
 -- `raster::move_rows` meets its contract.
+-- The invariant: each of the first i bytes is moved, and what was read for it are bytes. The measure is the bytes left.
 use denote.Ref.{now}
 use native.Mathlib.Omega.{arith}
 use mathlib.Core.Path.{refl}

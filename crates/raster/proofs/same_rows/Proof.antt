@@ -1,4 +1,5 @@
 -- `raster::same_rows` meets its contract.
+-- The invariant: differ is 0 exactly where the first i bytes of the two rows are the same. The measure is the bytes left.
 use Prim.Native.Nat.{_+_, _-_, _≤_, ℕ}
 use Rattle.morphology.specs.Lists.{everyOf, upTo}
 use Rattle.morphology.specs.Lists.{tabulate}

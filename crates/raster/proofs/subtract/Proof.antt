@@ -1,4 +1,5 @@
 -- `raster::subtract` meets its contract.
+-- The invariant: from each of the first i bytes that of the source is taken away. The measure is the bytes left.
 use mathlib.Core.Path.{ap}
 use Prim.Native.Nat.{_-_, _≤_, ℕ}
 use native.Mathlib.Omega.{arith}

@@ -1,4 +1,5 @@
 -- `raster::sum_of` meets its contract.
+-- The invariant: n is the sum of the first i numbers, at most 255 for each. The measure is the numbers left.
 use mathlib.Core.Path.{_∙_, _≡_, ap, refl}
 use Prim.Native.Nat.{_*_, _-_, _≤_, ℕ}
 use native.Mathlib.Omega.{arith}
