@@ -71,6 +71,10 @@ row6 m = (6, not (isMask m))
 abbrev pub row7 : ℕ → Row
 row7 n = (7, ltb maxSide n)
 
+-- (02) the bytes needed exceed the lent output
+abbrev pub row8 : ℕ → List ℕ → Row
+row8 needed out = (8, ltb (length out) needed)
+
 -- ---- the answer to the rows of a call, which stand in the table's order
 
 -- the number of the first row that holds, so the lowest; 0 if there is none

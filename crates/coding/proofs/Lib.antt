@@ -1,0 +1,7 @@
+pub mod NumeralLaws
+pub mod SectionLaws
+pub mod PackLaws
+pub mod RunLaws
+pub mod MaskLaws
+pub mod StoreLaws
+pub mod CodingCases
