@@ -3,12 +3,12 @@ use mathlib.Core.Bool.{Bool, _&&_, cond, not}
 use mathlib.Core.List.{List, _++_}
 use mathlib.Core.Path.{_∙_, _≡_, ap, ap₂, refl, subst, sym}
 use Prim.Native.Nat.{_*_, _+_, _<_, _≤_, max, suc, zero, ℕ}
-use native.Mathlib.Nat.{le-refl, mul-le-mul-right, suc-ne-zero, zero-add}
+use native.Mathlib.Nat.{le-refl, suc-ne-zero}
 use native.Mathlib.Numerals.{add-one}
 use native.Mathlib.Omega.{arith}
 use lib.Dec.{T, eqb}
-use lib.ListN.{drop, getD, getD-replicate, length, length-drop, replicate, take}
-use lib.Seq.{ext-getD, getD-drop, getD-take, length-take-le}
+use lib.ListN.{drop, getD, getD-replicate, length, replicate, take}
+use lib.Seq.{ext-getD}
 use Rattle.morphology.specs.Element.{isElement, offsets}
 use Rattle.morphology.specs.Image.{imageSet, isClean, pack, planeBytes}
 use Rattle.morphology.specs.Labels.{area, place, pointsOf, raster}
@@ -23,104 +23,31 @@ use Rattle.morphology.proofs.MorphologyLaws.{eroded-suc, eroded-zero}
 use Rattle.morphology.proofs.PlaneLaws.{area-le, pack-empty, some-point}
 use Rattle.morphology.proofs.ElementLaws.{element}
 use Rattle.morphology.proofs.FrameLaws.{OnFrame}
-use Rattle.morphology.proofs.ImageLaws.{Agree, agree-front, image-agree, image-on, image-pack, length-pack}
-use Rattle.morphology.proofs.SkeletonLaws.{open-on}
 use Rattle.raster.specs.Rows.{overwrite}
 use Rattle.raster.proofs.RowLaws.{row-in}
-use Rattle.raster.proofs.PartLaws.{PartIs, drop-overwrite, length-overwrite, part-overwrite}
 use Rattle.raster.specs.Frames.{Frame}
 use Rattle.raster.proofs.PackLaws.{frame-bytes}
 use Rattle.iteration.specs.Steps.{First, Sheet}
 use Rattle.label_write.specs.Labelled.{Labelled, lacking}
 use Rattle.raster.specs.Bands.{EndRow, FirstRow}
-use Rattle.decomposition.specs.Bands.{Banded}
+use Rattle.iteration.specs.Bands.{Banded}
 use Rattle.decomposition.specs.Turns.{Finished, Stepped, Took, Turned, Turns}
-use Rattle.decomposition.proofs.BandLaws.{banded-next, banded-rows, eroded-sub}
+use Rattle.iteration.proofs.BandLaws.{banded-next, banded-rows, eroded-sub}
+use Rattle.iteration.proofs.OpenLaws.{opened-down, opened-first, opened-third}
 use Rattle.iteration.proofs.StepLaws.{first-clean, first-image, sheet-bytes}
 
 -- ---- one turn
 
--- the n bytes at p, E, copied over the first n
-pub copied-over : (p n : ℕ) (v E new : List ℕ) → n ≤ p → p + n ≤ length v → length E ≡ n → take n (drop p v) ≡ E → new ≡ take n (drop p v) ++ drop n v → new ≡ overwrite 0 E v
-unfolding overwrite
-copied-over p n v E new np h e q en = en ∙ ap₂ (λ (a : List ℕ) (k : ℕ). a ++ drop k v) q (sym e ∙ sym (zero-add (length E)))
-
 module _ (W H r p e : ℕ) (old : List ℕ) (f : Frame W H r) (hp : H * r ≤ p) (h : p + p + H * r ≤ length old) where
-  n : ℕ
-  n = H * r
-
-  X : Point → Bool
-  X = imageSet W H old
-
-  E : List ℕ
-  E = pack W H (erode (offsets e) (imageSet W H old))
-
-  O : List ℕ
-  O = pack W H (opening (offsets e) (imageSet W H old))
-
-  u : List ℕ
-  u = overwrite p E old
-
-  v : List ℕ
-  v = overwrite (p + p) O u
-
-  sizeE : length E ≡ n
-  unfolding n E
-  sizeE = length-pack W H (erode (offsets e) (imageSet W H old)) ∙ sym (frame-bytes f)
-
-  sizeO : length O ≡ n
-  unfolding n O
-  sizeO = length-pack W H (opening (offsets e) (imageSet W H old)) ∙ sym (frame-bytes f)
-
-  longU : length u ≡ length old
-  unfolding u n
-  longU = length-overwrite p n old E sizeE (omega arith)
-
-  first : PartIs p n old E u
-  unfolding u n
-  first = part-overwrite p n old E sizeE (omega arith)
-
-  second : PartIs (p + p) n u O v
-  unfolding v n
-  second = part-overwrite (p + p) n u O sizeO (omega (arith, longU))
-
-  -- the planes of the turn, one after the other
-  agree-old : Agree W H v old
-  unfolding n
-  agree-old j l = second .before j (omega (arith, frame-bytes f)) ∙ first .before j (omega (arith, frame-bytes f))
-
-  agree-opened : Agree W H (drop (p + p) v) O
-  unfolding v n
-  agree-opened j l =
-      ap (λ (s : List ℕ). getD s j 0) (drop-overwrite (p + p) n u O sizeO (omega (arith, longU)))
-      ∙ agree-front W H O (drop (p + p + n) u) (sizeO ∙ frame-bytes f) j l
-
-  eroded-plane : take n (drop p v) ≡ E
-  unfolding n
-  eroded-plane =
-      let lv : length v ≡ length old = second .size ∙ longU in
-      let lt : length (take n (drop p v)) ≡ n = length-take-le n (drop p v) (omega (arith, length-drop p v)) in
-      ext-getD 0 (take n (drop p v)) E (lt ∙ sym sizeE) (λ j l.
-      let hj : j < n = omega arith in
-      getD-take n (drop p v) j 0 hj ∙ getD-drop p v j 0 ∙ second .before (p + j) (omega arith) ∙ first .within j hj)
-
-  pub turn-done : (w′ new labels labels′ : List ℕ) (c found : ℕ) → w′ ≡ overwrite (p + p) (pack W H (opening (offsets e) (imageSet W H old))) (overwrite p (pack W H (erode (offsets e) (imageSet W H old))) old)
-      → Labelled W H (lacking W H (p + p) w′) c labels labels′ found → new ≡ take (H * r) (drop p w′) ++ drop (H * r) w′ → Turned W H p (offsets e) c old new labels labels′ found
-  unfolding n E O u v X
-  turn-done w′ new labels labels′ c found q m en =
-      let q′ : w′ ≡ v = q in
-      let a : imageSet W H w′ ≡ X = ap (imageSet W H) q′ ∙ image-agree W H v old agree-old in
-      let b : imageSet W H (drop (p + p) w′) ≡ opening (offsets e) X =
-      ap (λ (s : List ℕ). imageSet W H (drop (p + p) s)) q′ ∙ image-agree W H (drop (p + p) v) O agree-opened ∙ image-pack W H (opening (offsets e) X) (open-on W H (offsets e) X (image-on W H old)) in
-      record {
-        planes =
-            copied-over p n v E new hp (omega (arith, second .size, longU)) sizeE eroded-plane (en ∙ ap (λ (s : List ℕ). take n (drop p s) ++ drop n s) q′);
-        points = subst (λ (S : Point → Bool). Labelled W H S c labels labels′ found) (ap₂ (λ (Y Z : Point → Bool). λ z. Y z && not (Z z)) a b) m;
-      }
-
--- the first b rows lie in the first plane
-pub sheet-rows : {w h r p : ℕ} → Sheet w h r p → (b : ℕ) (s : List ℕ) → b ≤ h → p ≤ length s → b * r ≤ length (take p s)
-sheet-rows {r = r} {p} sheet b s l g = omega (arith, length-take-le p s g, mul-le-mul-right r l, sheet .plane)
+  pub turn-done : (w′ new labels labels′ : List ℕ) (c found : ℕ)
+      → w′ ≡ overwrite (p + p) (pack W H (opening (offsets e) (imageSet W H old))) (overwrite p (pack W H (erode (offsets e) (imageSet W H old))) old)
+      → Labelled W H (lacking W H (p + p) w′) c labels labels′ found → new ≡ take (H * r) (drop p w′) ++ drop (H * r) w′
+      → Turned W H p (offsets e) c old new labels labels′ found
+  turn-done w′ new labels labels′ c found q m en = record {
+    planes = opened-down W H r p e old f hp h w′ q new en;
+    points = subst (λ (S : Point → Bool). Labelled W H S c labels labels′ found)
+        (ap₂ (λ (Y Z : Point → Bool). λ z. Y z && not (Z z)) (opened-first W H r p e old f hp h w′ q) (opened-third W H r p e old f hp h w′ q)) m;
+  }
 
 -- no more points than places
 pub stepped-le : {W H p : ℕ} {B : List Point} {v : ℕ} {w w′ l l′ : List ℕ} {found : ℕ} → Stepped W H p B v w w′ l l′ found → found ≤ W * H

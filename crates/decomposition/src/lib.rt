@@ -7,9 +7,8 @@ ghost use Rattle.morphology.specs.Element.{offsets, isElement};
 ghost use Rattle.morphology.specs.Image.{imageSet, isClean};
 ghost use Rattle.morphology.specs.Labels.{maxLabel};
 ghost use Rattle.morphology.specs.Operations.{cleared};
-ghost use Rattle.raster.specs.Frames.{Frame};
 ghost use Rattle.iteration.specs.Steps.{Sheet, Ready};
-ghost use Rattle.decomposition.specs.Bands.{Banded};
+ghost use Rattle.iteration.specs.Bands.{Banded};
 ghost use Rattle.decomposition.specs.Turns.{TurnStart, Turned, Stepped, Took, Finished};
 
 // What the turns of a decomposition found: the points, and how many turns had one.

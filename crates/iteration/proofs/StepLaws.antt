@@ -202,6 +202,10 @@ ready W H image out work f i o w c = record {
   clean = T-of-not (isClean W H image) c;
 }
 
+-- the same image with as much work
+pub ready-again : {W H : ℕ} {image out work u : List ℕ} → Ready W H image out work → length u ≡ length work → Ready W H image out u
+ready-again d e = record { frame = d .frame; image = d .image; out = d .out; work = omega (arith, d .work, e); clean = d .clean }
+
 pub record Loaded (W H : ℕ) (image work v : List ℕ) : Type 0 where
   pub size : length v ≡ length work
   pub clean : T (isClean W H v)
@@ -228,7 +232,7 @@ pub three-cleared : (n : ℕ) (old ys : List ℕ) → ys ≡ replicate (length (
 three-cleared n old ys e h = ap (λ (l : List ℕ). l ++ drop n old) (e ∙ ap (λ (k : ℕ). replicate k 0) (length-take-le n old h))
 
 -- what is the same from some byte on is so from a later one
-drop-later : (k n : ℕ) (u v : List ℕ) → k ≤ n → drop k u ≡ drop k v → drop n u ≡ drop n v
+pub drop-later : (k n : ℕ) (u v : List ℕ) → k ≤ n → drop k u ≡ drop k v → drop n u ≡ drop n v
 drop-later k n u v h e =
     let d : n ≡ k + (n - k) = omega arith in
     ap (λ (i : ℕ). drop i u) d ∙ sym (drop-drop (n - k) k u) ∙ ap (drop (n - k)) e ∙ drop-drop (n - k) k v ∙ ap (λ (i : ℕ). drop i v) (sym d)
@@ -240,14 +244,18 @@ unfolding cleared
 work-cleared W H p k work u q h e =
     ap (λ (l : List ℕ). replicate (3 * p) 0 ++ l) (drop-later k (3 * p) u work h e) ∙ ap (λ (n : ℕ). replicate (3 * n) 0 ++ drop (3 * n) work) q
 
+-- after an image was copied in, the rest is as it was
+pub loaded-rest : (p n : ℕ) (image work ys : List ℕ) → p ≤ n → length image ≡ p → ys ≡ image → drop n (ys ++ drop p work) ≡ drop n work
+loaded-rest p n image work ys h hi ey =
+    ap (λ (l : List ℕ). drop n (l ++ drop p work)) ey ∙ drop-later p n (image ++ drop p work) work h (drop-at image (drop p work) p hi)
+
 -- the same before an image was copied in
 pub rest-cleared : (W H p : ℕ) (image work ys u : List ℕ) → p ≡ planeBytes W H → length image ≡ p → ys ≡ image
     → drop (3 * p) u ≡ drop (3 * p) (ys ++ drop p work)
     → replicate (3 * p) 0 ++ drop (3 * p) u ≡ cleared W H work
 rest-cleared W H p image work ys u q hi ey m =
     work-cleared W H p (3 * p) work u q (le-refl (3 * p))
-    (m ∙ ap (λ (l : List ℕ). drop (3 * p) (l ++ drop p work)) ey
-    ∙ drop-later p (3 * p) (image ++ drop p work) work (omega arith) (drop-at image (drop p work) p hi))
+    (m ∙ loaded-rest p (3 * p) image work ys (omega arith) hi ey)
 
 -- handed out after an image was copied in
 pub wrote : (W H p n : ℕ) (X : Point → Bool) (image work ys u out work′ : List ℕ) → p ≡ planeBytes W H → OnFrame W H X → length image ≡ p → ys ≡ image

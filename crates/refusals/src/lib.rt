@@ -135,3 +135,17 @@ pub fn image_rows(w: u32, h: u32, image: &[u8], other: bool, short: bool) -> u8
     let padding = row(4, bad_padding(w, h, image));
     first(lengths, padding)
 }
+
+// Rows 1 to 4 of a call that reads an image and has work and perhaps another buffer, whose length is wrong or not.
+pub fn image_refusal(w: u32, h: u32, element: u32, image: &[u8], other: bool, work: &[u8]) -> u8
+    ensures { λ r. ⌜ r ≡ firstRefusal
+        (row1 w h ∷ row2 element ∷ row3 (notPlane w h (now (image .entry)) ∷ other ∷ shortWork w h (now (work .entry)) ∷ [])
+        ∷ row4 w h (now (image .entry)) ∷ []) ⌝ }
+{
+    let numbers = sides_and_element(w, h, element);
+    if numbers != 0 {
+        return numbers;
+    }
+    let short = short_work(w, h, work);
+    image_rows(w, h, image, other, short)
+}

@@ -10,7 +10,7 @@ ghost use Rattle.morphology.specs.Element.{offsets, isElement};
 ghost use Rattle.morphology.specs.Image.{imageSet};
 ghost use Rattle.morphology.specs.Morphology.{erode as erodeSet, dilate as dilateSet, times};
 ghost use Rattle.morphology.specs.Operations.{eroded, opened, decomposed, reconstructed, foldRows, decomposeRows, reconstructRows};
-ghost use Rattle.morphology.specs.Refusals.{firstRefusal, notPlane, shortWork, row1, row2, row3, row4};
+ghost use Rattle.morphology.specs.Refusals.{firstRefusal};
 ghost use Rattle.iteration.specs.Steps.{Wrote, Ready};
 ghost use Rattle.iteration.specs.Written.{answerOf};
 ghost use Rattle.skeleton.specs.Decomposed.{answerOf as decomposedAnswer};
@@ -22,26 +22,12 @@ pub enum Decomposed {
     Skeleton { points: u32, largest: u32 },
 }
 
-// Rows 1 to 4 of a call that reads an image and has work and another buffer, whose length is wrong or not.
-fn image_refusal(w: u32, h: u32, element: u32, image: &[u8], other: bool, work: &[u8]) -> u8
-    ensures { λ r. ⌜ r ≡ firstRefusal
-        (row1 w h ∷ row2 element ∷ row3 (notPlane w h (now (image .entry)) ∷ other ∷ shortWork w h (now (work .entry)) ∷ [])
-        ∷ row4 w h (now (image .entry)) ∷ []) ⌝ }
-{
-    let numbers = refusals::sides_and_element(w, h, element);
-    if numbers != 0 {
-        return numbers;
-    }
-    let short = refusals::short_work(w, h, work);
-    refusals::image_rows(w, h, image, other, short)
-}
-
 // The first row of the table of refusals that applies to an erosion or opening; 0 if there is none.
 fn fold_refusal(w: u32, h: u32, element: u32, n: u32, image: &[u8], out: &[u8], work: &[u8]) -> u8
     ensures { λ r. ⌜ r ≡ firstRefusal (foldRows w h element n (now (image .entry)) (now (out .entry)) (now (work .entry))) ⌝ }
 {
     let out_wrong = refusals::not_plane(w, h, out);
-    let early = image_refusal(w, h, element, image, out_wrong, work);
+    let early = refusals::image_refusal(w, h, element, image, out_wrong, work);
     let above = refusals::row(7, refusals::above_max(n));
     refusals::first(early, above)
 }
@@ -116,7 +102,7 @@ fn decompose_refusal(w: u32, h: u32, element: u32, image: &[u8], labels: &[u8], 
     ensures { λ r. ⌜ r ≡ firstRefusal (decomposeRows w h element (now (image .entry)) (now (labels .entry)) (now (work .entry))) ⌝ }
 {
     let labels_wrong = refusals::not_places(w, h, labels);
-    image_refusal(w, h, element, image, labels_wrong, work)
+    refusals::image_refusal(w, h, element, image, labels_wrong, work)
 }
 
 // Decomposition: the skeleton function of image into labels.

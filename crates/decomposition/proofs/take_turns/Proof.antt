@@ -12,10 +12,10 @@ use Rattle.morphology.specs.Image.{imageSet}
 use Rattle.morphology.proofs.FrameLaws.{OnFrame}
 use Rattle.morphology.proofs.ImageLaws.{image-on}
 use Rattle.iteration.proofs.StepLaws.{first-start, sheet-bytes}
-use Rattle.decomposition.specs.Bands.{Banded}
+use Rattle.iteration.specs.Bands.{Banded}
 use Rattle.decomposition.specs.Turns.{Turns}
-use Rattle.decomposition.proofs.BandLaws.{banded-start}
-use Rattle.decomposition.proofs.TurnLaws.{sheet-rows, stepped-as, stepped-le, turns-band, turns-below, turns-clean, turns-found, turns-labels, turns-more, turns-over, turns-point, turns-start}
+use Rattle.iteration.proofs.BandLaws.{banded-start, sheet-rows}
+use Rattle.decomposition.proofs.TurnLaws.{stepped-as, stepped-le, turns-band, turns-below, turns-clean, turns-found, turns-labels, turns-more, turns-over, turns-point, turns-start}
 use Rattle.decomposition.proofs.take_turns.Statement.{statement}
 use Rattle.decomposition.proofs.take_turns.Tie as tie
 

@@ -6,7 +6,8 @@ use native.Mathlib.Omega.{arith}
 use borrow.Author.Needs.{needs}
 use denote.Ref.{now}
 use lib.ListN.{getD, length}
-use Rattle.decomposition.proofs.BandLaws.{band-clean, band-frame, band-long, band-span, band-stepped}
+use Rattle.decomposition.proofs.BandLaws.{band-stepped}
+use Rattle.iteration.proofs.BandLaws.{band-clean, band-frame, band-long, band-span}
 use Rattle.decomposition.proofs.turn_band.Statement.{statement}
 use Rattle.decomposition.proofs.turn_band.Tie as tie
 

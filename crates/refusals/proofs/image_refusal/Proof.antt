@@ -1,10 +1,10 @@
--- `skeleton::image_refusal`: rows 1 and 2, and where they do not hold rows 3 and 4.
+-- `refusals::image_refusal`: rows 1 and 2, and where they do not hold rows 3 and 4.
 use mathlib.Core.List.{[], _∷_}
 use mathlib.Core.Path.{_∙_, sym}
 use borrow.Author.Needs.{needs}
 use Rattle.morphology.proofs.RefusalLaws.{clear-out, first-passed, first-refused}
-use Rattle.skeleton.proofs.image_refusal.Statement.{statement}
-use Rattle.skeleton.proofs.image_refusal.Tie as tie
+use Rattle.refusals.proofs.image_refusal.Statement.{statement}
+use Rattle.refusals.proofs.image_refusal.Tie as tie
 
 sides-and-element-requires : tie.Need-sides-and-element-requires
 sides-and-element-requires c κs = search needs
