@@ -31,7 +31,7 @@ pub fn heading(leptonica: &str) {
     let cpu = std::fs::read_to_string("/proc/cpuinfo").unwrap_or_default();
     let model = cpu.lines().find(|line| line.starts_with("model name"));
     println!("{}", model.unwrap_or("model name: unknown"));
-    println!("{SIDE} by {SIDE}; microseconds a call, best of {ROUNDS} rounds of {ROUND:?} or more, in turns.");
+    println!("{SIDE} by {SIDE}, the ticket 255 by 80; microseconds a call, best of {ROUNDS} rounds of {ROUND:?} or more, in turns.");
     println!("All sides optimised. Lent buffers are warm and not cleared before a call.");
     println!("Leptonica: {leptonica}\n");
     let columns = columns(["operation", "input", "element", "n, cut"]);
@@ -86,7 +86,7 @@ pub fn compare(
         assert!(same(&of_proved), "{columns}: Leptonica's pixels differ");
     }
     let restore = in_place.then_some(lent);
-    let mut time_proved = |calls| round(calls, &mut of_proved, restore, &proved);
+    let mut time_proved = |calls| round(calls, &mut of_proved, restore, proved);
     let mut time_baseline = |calls| round(calls, &mut of_baseline, restore, baseline);
     let mut time_other = |calls| {
         let call = other.as_ref().map(|other| &other.call)?;
@@ -109,10 +109,26 @@ pub fn compare(
     }
 }
 
+/// The best times of two calls that take turns, in microseconds.
+pub fn time_both(
+    lent: [&mut Lent; 2],
+    first: impl Fn(&mut Lent) -> Result<u32, u8>,
+    second: impl Fn(&mut Lent) -> Result<u32, u8>,
+) -> [f64; 2] {
+    let [of_first, of_second] = lent;
+    let first = |lent: &mut Lent| first(lent).expect("sound arguments");
+    let second = |lent: &mut Lent| second(lent).expect("sound arguments");
+    let times = best([
+        &mut |calls| Some(round(calls, of_first, None, first)),
+        &mut |calls| Some(round(calls, of_second, None, second)),
+    ]);
+    times.map(|time| time.unwrap_or(0.0))
+}
+
 /// The best time of a call, in microseconds.
 pub fn time(lent: &mut Lent, call: impl Fn(&mut Lent) -> Result<u32, u8>) -> f64 {
     let call = |lent: &mut Lent| call(lent).expect("sound arguments");
-    let [time] = best([&mut |calls| Some(round(calls, lent, None, &call))]);
+    let [time] = best([&mut |calls| Some(round(calls, lent, None, call))]);
     time.unwrap_or(0.0)
 }
 

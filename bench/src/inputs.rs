@@ -1,6 +1,6 @@
-//! What is timed: frames of 255 by 255 and the named elements.
+//! What is timed: frames of 255 by 255, a ticket for the codes, and the named elements.
 
-/// Both sides of every frame.
+/// Both sides of every frame but the ticket's.
 pub const SIDE: u32 = 255;
 
 pub const ELEMENTS: [(&str, u32); 5] = [
@@ -27,6 +27,32 @@ pub fn images() -> [(&'static str, Vec<u8>); 5] {
             scan(include_bytes!("../../samples/sheet-417.scan")),
         ),
     ]
+}
+
+/// An image with its name and sides.
+pub struct Scan {
+    pub name: &'static str,
+    pub w: u32,
+    pub h: u32,
+    pub image: Vec<u8>,
+}
+
+/// What is encoded: the images, and one ticket.
+pub fn scans() -> Vec<Scan> {
+    let sheet = |(name, image)| Scan {
+        name,
+        w: SIDE,
+        h: SIDE,
+        image,
+    };
+    let ticket = include_bytes!("../../samples/ticket-0417.scan");
+    let ticket = Scan {
+        name: "ticket 0417",
+        w: ticket[0] as u32,
+        h: ticket[1] as u32,
+        image: ticket[6..].to_vec(),
+    };
+    images().into_iter().map(sheet).chain([ticket]).collect()
 }
 
 /// A sheet of so many rows and columns, all ink.

@@ -1,6 +1,7 @@
 //! Times the proved functions against the baseline, side by side in one run. Words given as
 //! arguments select the lines that have all of them.
 
+mod codes;
 mod compare;
 mod growth;
 #[cfg_attr(not(leptonica), path = "leptonica_absent.rs")]
@@ -8,7 +9,7 @@ mod leptonica;
 mod proved;
 
 use bench::baseline;
-use bench::inputs::{images, ELEMENTS, SIDE};
+use bench::inputs::{images, scans, ELEMENTS, SIDE};
 use compare::{compare, heading, Lent};
 
 /// The n of erosions and openings.
@@ -39,6 +40,12 @@ fn main() {
     for (input, image) in images() {
         thin(input, &image);
     }
+    for scan in scans() {
+        for (name, element) in ELEMENTS {
+            codes::encode(name, element, &scan);
+        }
+    }
+    codes::table();
     growth::tables();
 }
 

@@ -1,7 +1,8 @@
 //! The proved functions, linked as a static library: one function makes any call, by the
 //! operation's number, with x to read and y, z and c to write (`crates/replay/src/main.rt` has the
 //! table). A slice goes as a pointer and a length. Each answers one number or is refused:
-//! `decompose` and `minimise` answer the points, `thin` the passes, the others the area.
+//! `decompose` and `minimise` answer the points, `thin` the passes, `encode` the bytes of the
+//! stream, the others the area.
 
 /// An answer whole; what is timed needs only its first value.
 #[repr(C)]
@@ -66,4 +67,9 @@ pub fn minimise(w: u32, h: u32, element: u32, labels: &mut [u8], work: &mut [u8]
 
 pub fn thin(w: u32, h: u32, image: &mut [u8], work: &mut [u8]) -> Result<u32, u8> {
     first(6, [w, h, 0, 0], &[], image, work, &mut [])
+}
+
+#[rustfmt::skip]
+pub fn encode(w: u32, h: u32, element: u32, image: &[u8], out: &mut [u8], work: &mut [u8]) -> Result<u32, u8> {
+    first(7, [w, h, element, 0], image, out, work, &mut [])
 }

@@ -2,7 +2,7 @@
 
 use super::frame::{Frame, Offsets};
 use super::*;
-use crate::inputs::{images, ELEMENTS, SIDE};
+use crate::inputs::{images, scans, Scan, ELEMENTS, SIDE};
 use reference::cases::{self, Call};
 use reference::rng::Rng;
 use reference::Answer;
@@ -30,6 +30,11 @@ fn run(call: &Call) -> (Answer, Call) {
             thin(*w, *h, image, work).map(|Thinned { passes, removed, area }| {
                 Answer::Thinned { passes, removed, area }
             }),
+        Call::Encode { w, h, element, image, out, work } =>
+            encode(*w, *h, *element, image, out, work).map(|coded| match coded {
+                Coded { bytes, max_size: Some(max_size) } => Answer::Coded { bytes, max_size },
+                Coded { .. } => Answer::Blank,
+            }),
     };
     (answer.unwrap_or_else(Answer::Refused), after)
 }
@@ -39,6 +44,29 @@ fn seeded_calls() {
     for seed in 0..20_000 {
         let call = cases::call(seed);
         assert!(run(&call) == cases::run(&call), "seed {seed}: {call:?}");
+    }
+}
+
+/// Codes into outputs of every kind, and the settled ones.
+#[test]
+fn seeded_codes() {
+    const ENCODE: usize = 7;
+    let (mut coded, mut blank, mut eight) = (0, 0, 0);
+    for seed in 0..20_000 {
+        let call = cases::call_of(ENCODE, seed);
+        let (answer, after) = run(&call);
+        match answer {
+            Answer::Coded { .. } => coded += 1,
+            Answer::Blank => blank += 1,
+            Answer::Refused(8) => eight += 1,
+            _ => {}
+        }
+        assert!((answer, after) == cases::run(&call), "seed {seed}");
+    }
+    let met = [coded, blank, eight];
+    assert!(met.iter().all(|&times| times >= 1000), "{met:?}");
+    for s in cases::coded() {
+        assert_eq!(run(&s.call), (s.answer, s.after), "case {}", s.case);
     }
 }
 
@@ -70,6 +98,15 @@ fn timed_inputs() {
             ]);
         }
         for call in calls {
+            assert!(run(&call) == cases::run(&call), "{name}");
+        }
+    }
+    for Scan { name, w, h, image } in scans() {
+        for (_, element) in ELEMENTS {
+            let (image, work) = (image.clone(), vec![0xa5; 3 * image.len()]);
+            let out = vec![0xa5; (w * h) as usize];
+            #[rustfmt::skip]
+            let call = Call::Encode { w, h, element, image, out, work };
             assert!(run(&call) == cases::run(&call), "{name}");
         }
     }

@@ -1,8 +1,13 @@
 -- A call by number is the operation's own; a reply says the answer that it was made of.
 use mathlib.Core.List.{List, [], _++_, _∷_}
 use mathlib.Core.Path.{_∙_, _≡_, ap, refl, sym}
-use Prim.Native.Nat.{_≤_, ℕ}
+use Prim.Native.Nat.{_≤_, suc, ℕ}
+use native.Mathlib.Omega.{arith}
 use lib.ListN.{List·getD-eq-default}
+use Rattle.coding.specs.Coding.{encoded}
+use Rattle.encoding.specs.Encoded.{answerOf as encodedAnswer}
+use Rattle.encoding.specs.declared.Encoded.{Encoded}
+use Rattle.encoding.specs.declared.Encoded.the-variants.{Blank as NoStream, Refused as NotEncoded, Stream}
 use Rattle.iteration.specs.Written.{answerOf as writtenAnswer}
 use Rattle.iteration.specs.declared.Written.{Written}
 use Rattle.iteration.specs.declared.Written.the-variants.{Area, Refused as NotWritten}
@@ -10,7 +15,6 @@ use Rattle.minimal.specs.Minimised.{answerOf as minimisedAnswer}
 use Rattle.minimal.specs.declared.Minimised.{Minimised}
 use Rattle.minimal.specs.declared.Minimised.the-variants.{Points, Refused as NotMinimised}
 use Rattle.morphology.specs.Answers.{Answer, Outcome, outcome}
-use Rattle.morphology.specs.Operations.{thin}
 use Rattle.skeleton.specs.Decomposed.{answerOf as decomposedAnswer}
 use Rattle.skeleton.specs.declared.Decomposed.{Decomposed}
 use Rattle.skeleton.specs.declared.Decomposed.the-variants.{Blank, Refused as NotDecomposed, Skeleton}
@@ -43,6 +47,11 @@ pub thinned-kept : (d : Thinned) → Faithful (thinnedAnswer d)
 thinned-kept (NotThinned n) = refl
 thinned-kept (Done p r n) = refl
 
+pub encoded-kept : (d : Encoded) → Faithful (encodedAnswer d)
+encoded-kept (NotEncoded n) = refl
+encoded-kept NoStream = refl
+encoded-kept (Stream b n) = refl
+
 -- ---- what a call owes: the outcome, and a reply with 0 where it has no value
 
 abbrev pub Owed : Reply → List (List ℕ) → Outcome → Type 0
@@ -59,10 +68,14 @@ owed-beside l others k e q g = owed (l ++ others) k e (ap (λ (o : Outcome). bes
 
 -- ---- the number of a call
 
+-- no number that was tried
+pub past : (n k : ℕ) → k ≤ n → (n ≡ k → ⊥) → suc k ≤ n
+past n k h f = omega arith
+
 module _ (W H a b : ℕ) (x y z c : List ℕ) where
   pub called-as : {op : ℕ} (k : ℕ) → op ≡ k → called op W H a b x y z c ≡ called k W H a b x y z c
   called-as k e = ap (λ (n : ℕ). called n W H a b x y z c) e
 
-  pub called-thin : (op : ℕ) → 6 ≤ op → called op W H a b x y z c ≡ beside (thin W H y z) (c ∷ [])
+  pub called-encode : (op : ℕ) → 7 ≤ op → called op W H a b x y z c ≡ beside (encoded W H a x y z) (c ∷ [])
   unfolding called
-  called-thin op h = List·getD-eq-default (operations W H a b x y z c) _ h
+  called-encode op h = List·getD-eq-default (operations W H a b x y z c) _ h

@@ -1,7 +1,8 @@
--- The operations of 01 by number, over one list of arguments. Definitions only; proofs/CallLaws.antt has the laws.
+-- The operations of 01 and 02 by number, over one list of arguments. Definitions only; proofs/CallLaws.antt has the laws.
 use mathlib.Core.List.{List, [], _++_, _∷_}
 use Prim.Native.Nat.{ℕ}
 use lib.ListN.{getD}
+use Rattle.coding.specs.Coding.{encoded}
 use Rattle.morphology.specs.Answers.{Outcome, outcome}
 use Rattle.morphology.specs.Operations.{decomposed, eroded, hitOrMiss, minimised, opened, reconstructed, thin}
 
@@ -9,7 +10,7 @@ use Rattle.morphology.specs.Operations.{decomposed, eroded, hitOrMiss, minimise
 abbrev pub beside : Outcome → List (List ℕ) → Outcome
 beside o others = outcome (o .answer) (o .lent ++ others)
 
--- the operations 0 to 5. x is read; y, z and c are lent, and stand in this order in each outcome
+-- the operations 0 to 6. x is read; y, z and c are lent, and stand in this order in each outcome
 abbrev pub operations : (W H a b : ℕ) → (x y z c : List ℕ) → List Outcome
 operations W H a b x y z c =
     beside (eroded W H a b x y z) (c ∷ [])
@@ -18,8 +19,9 @@ operations W H a b x y z c =
     ∷ beside (reconstructed W H a b x y z) (c ∷ [])
     ∷ minimised W H a y z c
     ∷ beside (hitOrMiss W H (a, b) x y) (z ∷ c ∷ [])
+    ∷ beside (thin W H y z) (c ∷ [])
     ∷ []
 
--- the operation with a number; any number above 5 is thinning
+-- the operation with a number; any number above 6 is the writer of codes
 unfoldable pub called : (op W H a b : ℕ) → (x y z c : List ℕ) → Outcome
-called op W H a b x y z c = getD (operations W H a b x y z c) op (beside (thin W H y z) (c ∷ []))
+called op W H a b x y z c = getD (operations W H a b x y z c) op (beside (encoded W H a x y z) (c ∷ []))

@@ -1,6 +1,7 @@
 // A call of a public operation by its number, with its answer as numbers.
 mod format;
 
+use encoding::Encoded;
 pub use format::HEADER;
 pub use format::answer;
 use minimal::Minimised;
@@ -10,6 +11,7 @@ use thinning::Thinned;
 ghost use mathlib.Core.Path.{_≡_};
 ghost use mathlib.Core.List.{[], _∷_};
 ghost use Rattle.morphology.specs.Answers.{answered, outcome, refused as refusedAnswer};
+ghost use Rattle.encoding.specs.Encoded.{answerOf as encodedAnswer};
 ghost use Rattle.iteration.specs.Written.{answerOf as writtenAnswer};
 ghost use Rattle.minimal.specs.Minimised.{answerOf as minimisedAnswer};
 ghost use Rattle.skeleton.specs.Decomposed.{answerOf as decomposedAnswer};
@@ -53,6 +55,19 @@ fn one(v: u32) -> Reply
     }
 }
 
+// Two values.
+fn two(v: u32, u: u32) -> Reply
+    ensures { λ r. ⌜ r ≡ replyOf (answered (v ∷ u ∷ [])) ⌝ }
+{
+    Reply {
+        refusal: 0,
+        count: 2,
+        first: v,
+        second: u,
+        third: 0,
+    }
+}
+
 // The answer of an erosion, an opening, a reconstruction or hit-or-miss.
 fn of_written(a: Written) -> Reply
     ensures { λ r. ⌜ r ≡ replyOf (writtenAnswer a) ⌝ }
@@ -70,13 +85,7 @@ fn of_decomposed(a: Decomposed) -> Reply
     match a {
         Decomposed::Refused(n) => refused(n),
         Decomposed::Blank => one(0),
-        Decomposed::Skeleton { points, largest } => Reply {
-            refusal: 0,
-            count: 2,
-            first: points,
-            second: largest,
-            third: 0,
-        },
+        Decomposed::Skeleton { points, largest } => two(points, largest),
     }
 }
 
@@ -110,6 +119,17 @@ fn of_thinned(a: Thinned) -> Reply
     }
 }
 
+// The answer of the writer of codes.
+fn of_encoded(a: Encoded) -> Reply
+    ensures { λ r. ⌜ r ≡ replyOf (encodedAnswer a) ⌝ }
+{
+    match a {
+        Encoded::Refused(n) => refused(n),
+        Encoded::Blank => one(0),
+        Encoded::Stream { bytes, largest } => two(bytes, largest),
+    }
+}
+
 // Calls operation `op`: x is read, y, z and c are lent. A buffer that the operation does not have stays as it is. Exported for bench/.
 #[no_mangle]
 pub extern "C" fn call(
@@ -134,6 +154,7 @@ pub extern "C" fn call(
         3 => of_written(skeleton::reconstruct(w, h, a, b, x, y, z)),
         4 => of_minimised(minimal::minimise(w, h, a, y, z, c)),
         5 => of_written(thinning::hit_or_miss(w, h, a, b, x, y)),
-        _ => of_thinned(thinning::thin(w, h, y, z)),
+        6 => of_thinned(thinning::thin(w, h, y, z)),
+        _ => of_encoded(encoding::encode(w, h, a, x, y, z)),
     }
 }

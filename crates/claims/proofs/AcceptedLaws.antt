@@ -1,8 +1,11 @@
 -- A call that is not refused: no row holds, and the outcome is the success.
-use mathlib.Core.List.{List, [], _∷_}
-use mathlib.Core.Path.{_≡_}
+use mathlib.Core.List.{List, [], _++_, _∷_}
+use mathlib.Core.Path.{_∙_, _≡_, ap, sym}
 use Prim.Native.Nat.{_-_, suc, ℕ}
 use lib.Dec.{T}
+use lib.ListN.{drop, length}
+use Rattle.coding.specs.Codes.{codeOf}
+use Rattle.coding.specs.Coding.{coded, coding, encodeRows, encoded}
 use Rattle.morphology.specs.Answers.{Outcome, foreground, outcome, thinned}
 use Rattle.morphology.specs.Element.{offsets}
 use Rattle.morphology.specs.Image.{imageSet, pack}
@@ -28,7 +31,7 @@ use Rattle.morphology.specs.Operations.{
   thinRows,
   writes,
 }
-use Rattle.morphology.specs.Refusals.{Row, checked, firstRefusal}
+use Rattle.morphology.specs.Refusals.{Row, checked, firstRefusal, row8}
 use Rattle.morphology.specs.Skeleton.{reconstruction, skeletonLabels}
 use Rattle.morphology.specs.Thinning.{hit, thinPasses}
 use Rattle.morphology.proofs.RefusalLaws.{Clear, clear-out, numbered, unless-out, unless-zero}
@@ -86,3 +89,17 @@ pub thinned-accepted : (W H : ℕ) (image work : List ℕ) → thin W H image wo
     Accepted (thinRows W H image work) (thin W H image work) (outcome (thinned (t .passes) (n - left) left) (t .image ∷ cleared W H work ∷ []))
 unfolding thin
 thinned-accepted W H image work h = accepted (thinRows W H image work) (image ∷ work ∷ []) _ tt h
+
+-- the writer's two parts: rows 1 to 4, then row 8
+pub encoded-accepted : (W H e : ℕ) (image out work : List ℕ) → encoded W H e image out work .answer .refusal ≡ 0
+    → let t = codeOf W H (offsets e) (imageSet W H image) in
+    Accepted (encodeRows W H e image work ++ (row8 (length (t .stream)) out ∷ [])) (encoded W H e image out work)
+    (outcome (coded t) ((t .stream ++ drop (length (t .stream)) out) ∷ cleared W H work ∷ []))
+unfolding encoded
+encoded-accepted W H e image out work h =
+    let t = codeOf W H (offsets e) (imageSet W H image) in
+    let a = accepted (encodeRows W H e image work) (out ∷ work ∷ []) (coding W H t out work) tt h in
+    let b = accepted (row8 (length (t .stream)) out ∷ []) (out ∷ cleared W H work ∷ []) (outcome (coded t) ((t .stream ++ drop (length (t .stream)) out) ∷ cleared W H work ∷ [])) tt
+    (ap (λ (o : Outcome). o .answer .refusal) (sym (a .is)) ∙ h) in
+    let c = a .clear in
+    record { clear = (c .0, (c .1 .0, (c .1 .1 .0, (c .1 .1 .1 .0, b .clear)))); is = a .is ∙ b .is }

@@ -6,3 +6,5 @@ pub mod StopLaws
 pub mod SieveLaws
 pub mod ShorteningLaws
 pub mod Claims
+pub mod SymbolLaws
+pub mod Codes

@@ -1,3 +1,4 @@
 pub mod Formula
 pub mod Sieves
 pub mod Claims
+pub mod Codes

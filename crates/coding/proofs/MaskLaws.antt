@@ -4,9 +4,9 @@ use mathlib.Core.List.{List, List·Memᴰ, [], _∷_}
 use mathlib.Core.Logic.{_⊎_, inl, inr}
 use mathlib.Core.Path.{_∙_, _≡_, ap, ap₂, fun-ext, refl, subst, sym}
 use Prim.Native.Nat.{_*_, _+_, _≤_, max, suc, zero, zero-le, ℕ}
-use native.Mathlib.Nat.{add-suc, add-zero, suc-add}
+use native.Mathlib.Nat.{add-zero}
 use native.Mathlib.Omega.{arith}
-use lib.Dec.{T, T-not, eqb, eqb-refl, eqb→eq, ltb}
+use lib.Dec.{T, eqb, eqb-refl, eqb→eq, ltb}
 use lib.IntN.{negsuc, pos, ℤ}
 use lib.ListN.{getD}
 use Rattle.coding.specs.Writing.{downFrom, erodedRuns}
@@ -29,7 +29,7 @@ use Rattle.morphology.proofs.ReconstructLaws.{label-on}
 use Rattle.morphology.proofs.RefusalLaws.{false-of}
 use Rattle.morphology.proofs.SkeletonLaws.{eroded-empty}
 use Rattle.morphology.proofs.SubsetLaws.{eroded-down, label-of, of-label, subset-in}
-use Rattle.morphology.proofs.TestLaws.{T-ext, and-in, and-l, and-r, decide, or-l, or-out, or-r}
+use Rattle.morphology.proofs.TestLaws.{T-ext, and-in, and-l, decide, or-l, or-out, or-r}
 
 -- ---- the skeleton's masks
 

@@ -55,6 +55,10 @@ numeral-third n h =
     ∙ enough n (suc (n / 3)) (n / 3) (n % 3 ∷ []) (omega arith) (omega arith)
     ∙ before-append (suc (n / 3)) (n / 3) (n % 3 ∷ []) (omega arith)
 
+-- two digits below 9
+pub numeral-two : (n : ℕ) → 3 ≤ n → n < 9 → numeral n ≡ n / 3 ∷ n % 3 ∷ []
+numeral-two n h k = numeral-third n h ∙ ap (λ (ds : List ℕ). ds ++ (n % 3 ∷ [])) (numeral-small (n / 3) (omega arith))
+
 -- ---- how many digits
 
 pub length-small : (n : ℕ) → n < 3 → length (numeral n) ≡ 1
@@ -62,6 +66,9 @@ length-small n h = ap length (numeral-small n h)
 
 pub length-third : (n : ℕ) → 3 ≤ n → length (numeral n) ≡ suc (length (numeral (n / 3)))
 length-third n h = ap length (numeral-third n h) ∙ length-append (numeral (n / 3)) (n % 3 ∷ []) ∙ add-one (length (numeral (n / 3)))
+
+pub length-two : (n : ℕ) → 3 ≤ n → n < 9 → length (numeral n) ≡ 2
+length-two n h k = ap length (numeral-two n h k)
 
 pub length-le : (n : ℕ) → length (numeral n) ≤ suc n
 length-le n = go (suc n) n (omega arith)

@@ -1,12 +1,14 @@
--- Symbols and bytes: there and back, up to padding; one symbol written into its byte.
+-- Symbols and bytes: there and back, up to padding; one symbol written into its byte, or two.
 use mathlib.Core.List.{List, [], _++_, _∷_}
 use mathlib.Core.Path.{_∙_, _≡_, ap, ap₂, refl, subst, sym}
 use Prim.Native.Nat.{_%_, _*_, _+_, _-_, _/_, _<_, _^_, suc, zero, ℕ}
 use native.Mathlib.Nat.{div-add-mod', div-one, mod-lt, zero-div, zero-lt-suc}
+use native.Mathlib.Numerals.{add-one}
 use native.Mathlib.Omega.{arith}
 use lib.Dec.{T, ltb, ltb→lt}
-use lib.ListN.{getD, length, replicate, set}
+use lib.ListN.{getD, length, length-set, replicate, set}
 use lib.Pow.{areBytes}
+use lib.Seq.{getD-set-other, getD-set-same, set-set, sets}
 use Rattle.coding.specs.Symbols.{packSymbols, quad, symbolsOf}
 use Rattle.morphology.proofs.TestLaws.{and-l, and-r}
 
@@ -79,13 +81,6 @@ symbols-at (v ∷ bytes) (suc (suc (suc (suc j)))) =
 
 -- ---- one symbol written where there was none
 
-pub shift-pow : (k : ℕ) → k < 4 → 2 ^ (6 - 2 * k) ≡ 4 ^ (3 - k)
-shift-pow zero h = refl
-shift-pow (suc zero) h = refl
-shift-pow (suc (suc zero)) h = refl
-shift-pow (suc (suc (suc zero))) h = refl
-shift-pow (suc (suc (suc (suc k)))) h = absurd (omega arith)
-
 -- a symbol moved to its place stays in the byte
 pub shifted : (k s : ℕ) → k < 4 → s < 4 → s * 2 ^ (6 - 2 * k) % 256 ≡ s * 4 ^ (3 - k)
 shifted zero s h t = omega arith
@@ -132,3 +127,61 @@ symbols-put (v ∷ bytes) (suc (suc (suc (suc j)))) s t h k e =
     let l = v ∷ bytes in
     ap₂ (λ (a b : ℕ). symbolsOf (set l a (getD l a 0 + s * 4 ^ (3 - b)))) p q
     ∙ ap (λ (r : List ℕ). v / 64 % 4 ∷ v / 16 % 4 ∷ v / 4 % 4 ∷ v % 4 ∷ r) (symbols-put bytes j s (subst (λ (a : ℕ). getD l a 0 < 256) p t) (omega arith) k e)
+
+-- ---- two symbols written into one byte
+
+-- side by side, they move to their places together
+pub shifted-two : (k s t : ℕ) → k < 3 → s < 4 → t < 4 → (4 * s + t) * 2 ^ (6 - 2 * k - 2) % 256 ≡ s * 4 ^ (3 - k) + t * 4 ^ (3 - (k + 1))
+shifted-two zero s t h p q = omega arith
+shifted-two (suc zero) s t h p q = omega arith
+shifted-two (suc (suc zero)) s t h p q = omega arith
+shifted-two (suc (suc (suc k))) s t h p q = absurd (omega arith)
+
+-- the bytes after the first
+abbrev after : List ℕ → ℕ → ℕ → List ℕ
+after bytes j s = set bytes (j / 4) (getD bytes (j / 4) 0 + s * 4 ^ (3 - j % 4))
+
+module _ (bytes : List ℕ) (j s t : ℕ) (together : j % 4 < 3) (byte : getD bytes (j / 4) 0 < 256) (inside : j + 1 < 4 * length bytes) (hs : s < 4) (ht : t < 4)
+    (here : getD (symbolsOf bytes) j 0 ≡ 0) (next : getD (symbolsOf bytes) (j + 1) 0 ≡ 0) where
+  -- the second is the next place of the same byte
+  same-byte : (j + 1) / 4 ≡ j / 4
+  same-byte = omega arith
+
+  next-place : (j + 1) % 4 ≡ j % 4 + 1
+  next-place = omega arith
+
+  byte-after : getD (after bytes j s) ((j + 1) / 4) 0 ≡ getD bytes (j / 4) 0 + s * 4 ^ (3 - j % 4)
+  byte-after =
+      ap (λ (i : ℕ). getD (after bytes j s) i 0) same-byte
+      ∙ getD-set-same bytes (j / 4) (getD bytes (j / 4) 0 + s * 4 ^ (3 - j % 4)) 0 (omega arith)
+
+  small-after : getD (after bytes j s) ((j + 1) / 4) 0 < 256
+  small-after =
+      subst (λ (v : ℕ). v < 256) (sym byte-after)
+      (symbol-room (getD bytes (j / 4) 0) (j % 4) s byte (mod-lt j (zero-lt-suc 3)) hs (sym (symbols-at bytes j) ∙ here))
+
+  comma-after : getD (symbolsOf (after bytes j s)) (j + 1) 0 ≡ 0
+  comma-after =
+      ap (λ (l : List ℕ). getD l (j + 1) 0) (symbols-put bytes j s byte (omega arith) hs here)
+      ∙ getD-set-other (symbolsOf bytes) j (j + 1) s 0 (λ e. omega arith) ∙ next
+
+  -- a byte with neither has room for both
+  pub room-two : getD bytes (j / 4) 0 + (s * 4 ^ (3 - j % 4) + t * 4 ^ (3 - (j % 4 + 1))) < 256
+  room-two =
+      let r = symbol-room (getD (after bytes j s) ((j + 1) / 4) 0) ((j + 1) % 4) t small-after (mod-lt (j + 1) (zero-lt-suc 3)) ht
+      (sym (symbols-at (after bytes j s) (j + 1)) ∙ comma-after) in
+      let e = ap₂ (λ (v k : ℕ). v + t * 4 ^ (3 - k)) byte-after next-place in
+      omega arith
+
+  pub symbols-put-two : symbolsOf (set bytes (j / 4) (getD bytes (j / 4) 0 + (s * 4 ^ (3 - j % 4) + t * 4 ^ (3 - (j % 4 + 1)))))
+      ≡ sets (symbolsOf bytes) j (s ∷ t ∷ [])
+  symbols-put-two =
+      let v = getD bytes (j / 4) 0 in
+      let a = s * 4 ^ (3 - j % 4) in
+      let b = t * 4 ^ (3 - (j % 4 + 1)) in
+      let e : v + a + b ≡ v + (a + b) = omega arith in
+      let u : getD (after bytes j s) ((j + 1) / 4) 0 + t * 4 ^ (3 - (j + 1) % 4) ≡ v + (a + b) =
+      ap₂ (λ (x k : ℕ). x + t * 4 ^ (3 - k)) byte-after next-place ∙ e in
+      sym (ap₂ (λ (i w : ℕ). symbolsOf (set (after bytes j s) i w)) same-byte u ∙ ap symbolsOf (set-set bytes (j / 4) (v + a) (v + (a + b))))
+      ∙ symbols-put (after bytes j s) (j + 1) t small-after (subst (λ (n : ℕ). j + 1 < 4 * n) (sym (length-set bytes (j / 4) (v + a))) inside) ht comma-after
+      ∙ ap₂ (λ (l : List ℕ) (i : ℕ). set l i t) (symbols-put bytes j s byte (omega arith) hs here) (add-one j)

@@ -1,4 +1,5 @@
--- The code of an image ("coded ticket" in 02), an Elias-coded skeleton: a largest size and a stream. Definitions only; proofs/MaskLaws.antt has the laws.
+-- The code of an image ("coded ticket" in 02), an Elias-coded skeleton: a largest size and a stream. Definitions only; proofs/MaskLaws.antt and
+-- CodeLaws.antt have the laws.
 use mathlib.Core.Bool.{Bool}
 use mathlib.Core.List.{List, [], _∷_, map}
 use mathlib.Core.Option.{Option, none, some}

@@ -1,5 +1,6 @@
--- Settled cases of the writer: the codes of 01's scans A to E and G to I, the sample of 000 and refusal 8. Definitions only; proofs/CodingCases.antt has the claim.
--- Rows of pixels are written as 01 writes them. The output holds 7 before the call, work holds 9 and one byte more than it needs.
+-- Settled cases of the writer: the codes of 01's scans A to E and G to I and of one more, the sample of 000 and refusal 8. Definitions only;
+-- proofs/CodingCases.antt has the claim. Rows of pixels are written as 01 writes them. The output holds 7 before the call, work holds 9 and one byte more
+-- than it needs.
 use mathlib.Core.List.{List, [], _++_, _∷_, map}
 use mathlib.Core.Path.{_≡_}
 use Prim.Native.Nat.{_-_, ℕ}
@@ -58,6 +59,8 @@ cases =
     ∷ encodes 4 1 LEFT (1101 ∷ []) (0x82 ∷ 0x00 ∷ []) 1
     -- I
     ∷ encodes 4 3 SQUARE (1110 ∷ 1111 ∷ 1110 ∷ []) (0xB0 ∷ 0x80 ∷ []) 1
+    -- sizes 2 and 0 with none of size 1 between, whose mask goes on
+    ∷ encodes 5 1 RIGHT (11101 ∷ []) (0x40 ∷ 0x20 ∷ []) 2
     ∷ []
 
 -- ---- the sample of 000, whose runs 02 gives: 40 pixels in a row

@@ -82,7 +82,7 @@ unfoldable pub firstRefusal : List Row → ℕ
 firstRefusal [] = 0
 firstRefusal (r ∷ rows) = cond (r .1) (r .0) (firstRefusal rows)
 
--- a refusal changes no lent byte
+-- a refusal leaves the buffers that stand here: the call's own as they are, and where a late row is tested with work cleared
 abbrev pub unless : ℕ → List (List ℕ) → Outcome → Outcome
 unless zero lent o = o
 unless (suc n) lent o = outcome (refused (suc n)) lent

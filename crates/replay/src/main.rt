@@ -2,8 +2,8 @@
 //
 // A call is a header of 33 bytes, then the buffers x, y, z and c. Numbers are u32, lowest byte first.
 //
-//     0        the operation: 0 erode, 1 open, 2 decompose, 3 reconstruct, 4 minimise, 5 hit_or_miss, 6 thin
-//     1..17    w, h, a, b: a is the element (0 to 4) or the mask's foreground (5);
+//     0        the operation: 0 erode, 1 open, 2 decompose, 3 reconstruct, 4 minimise, 5 hit_or_miss, 6 thin, 7 encode
+//     1..17    w, h, a, b: a is the element (0 to 4, 7) or the mask's foreground (5);
 //              b is n (0, 1), the cut (3) or the mask's background (5); an operation passes over what it does not have
 //     17..33   the lengths of x, y and z in bytes and of c in counters, each at most 65,536; a counter has two bytes, lowest first
 //
@@ -12,14 +12,15 @@
 //     erode, open    x image, y out, z work           minimise       y labels, z work, c counters
 //     decompose      x image, y labels, z work        hit_or_miss    x image, y out
 //     reconstruct    x labels, y image, z work        thin           y image, z work
+//     encode         x image, y out, z work
 //
 // A reply is 14 bytes, then y, z and c as they are after the call.
 //
 //     0        the refusal's number, 0 if there is none
-//     1        how many values the answer has: none if it is refused; decompose has 2, or 1 of a blank image, thin 3, the others 1
+//     1        how many values the answer has: none if it is refused; decompose and encode have 2, or 1 of a blank image, thin 3, the others 1
 //     2..14    three values, 0 where there is none
 //
-// It ends at the end of the input, at input that ends inside a call, at a read that fails, at an operation above 6 and at a length above 65,536.
+// It ends at the end of the input, at input that ends inside a call, at a read that fails, at an operation above 7 and at a length above 65,536.
 use input::Input;
 ghost use mathlib.Core.Path.{_≡_};
 ghost use Prim.Native.Nat.{_*_};
@@ -82,7 +83,7 @@ fn turn(x: &mut [u8], y: &mut [u8], z: &mut [u8], c: &mut [u8], counters: &mut [
     let ys = numbers::number(&header, 21) as usize;
     let zs = numbers::number(&header, 25) as usize;
     let cs = numbers::number(&header, 29) as usize;
-    if header[0] > 6 || xs > x.len() || ys > y.len() || zs > z.len() {
+    if header[0] > 7 || xs > x.len() || ys > y.len() || zs > z.len() {
         return false;
     }
     if cs > counters.len() || 2 * cs > c.len() {

@@ -32,6 +32,8 @@ impl From<&Call> for Message {
                 ([*w, *h, *element, *n], image, out, work, &[]),
             Call::Decompose { w, h, element, image, labels, work } =>
                 ([*w, *h, *element, 0], image, labels, work, &[]),
+            Call::Encode { w, h, element, image, out, work } =>
+                ([*w, *h, *element, 0], image, out, work, &[]),
             Call::Reconstruct { w, h, element, cut, labels, image, work } =>
                 ([*w, *h, *element, *cut], labels, image, work, &[]),
             Call::Minimise { w, h, element, labels, work, counters } =>
@@ -99,6 +101,7 @@ impl Reply {
                 removed,
                 area,
             } => (0, 3, [passes, removed, area]),
+            Answer::Coded { bytes, max_size } => (0, 2, [bytes, max_size, 0]),
         };
         let Message { y, z, c, .. } = Message::from(after);
         Reply {

@@ -109,17 +109,22 @@ fn every_edit_that_is_named_is_there() {
 #[test]
 fn every_claim_that_is_named_is_declared() {
     let claims = read(&root().join("docs/CLAIMS.md"));
-    let specs = read(&root().join("crates/claims/specs/Claims.antt"));
-    let mut named = 0;
-    for line in claims.lines() {
-        let cells: Vec<&str> = line.split(" | ").collect();
-        for cell in cells.iter().filter_map(|cell| cell.strip_prefix("C `")) {
+    for (letter, file, at_least) in [("C", "Claims.antt", 12), ("D", "Codes.antt", 8)] {
+        let specs = read(&root().join("crates/claims/specs").join(file));
+        let mut named = 0;
+        for (_, after) in claims
+            .match_indices(&format!("{letter} `"))
+            .map(|(at, word)| claims.split_at(at + word.len()))
+        {
             named += 1;
-            let name = cell.split('`').next().expect("a name");
+            let name = after.split('`').next().expect("a name");
             let declared = specs.contains(&format!("pub {name} :"))
                 || specs.contains(&format!("pub record {name} "));
-            assert!(declared, "docs/CLAIMS.md names the claim `{name}`, which claims/specs/Claims.antt does not have");
+            assert!(
+                declared,
+                "docs/CLAIMS.md names the claim `{name}`, which claims/specs/{file} does not have"
+            );
         }
+        assert!(named >= at_least, "{named} claims in {file}");
     }
-    assert!(named >= 12, "{named} claims");
 }

@@ -1,21 +1,24 @@
 //! Seeded calls for comparison with another implementation: every seed is one call with all
 //! its arguments and lent buffers, and `run` says what must come of it.
 
+mod coded;
 mod damage;
 mod refused;
 mod settled;
 mod sound;
 
+pub use coded::coded;
 pub use damage::{Damage, DAMAGES};
 pub use refused::{accepted, damaged, Damaged};
 pub use settled::{settled, shortened_at_a_cut, Settled};
 pub use sound::{cut_or_n, element, element_of, image, image_of, labels, labels_of, mask, side};
+pub use sound::{output, output_of, OutputKind, OUTPUT_KINDS};
 pub use sound::{ImageKind, LabelsKind, IMAGE_KINDS, LABELS_KINDS};
 
 use crate::element::ORIGIN;
-use crate::frame::Frame;
+use crate::frame::{Frame, Set};
 use crate::rng::Rng;
-use crate::{skeleton, Answer, SQUARE};
+use crate::{code, skeleton, Answer, SQUARE};
 use damage::damage;
 
 /// A call: the numbers, what is read, what is written, the work.
@@ -78,6 +81,14 @@ pub enum Call {
         image: Vec<u8>,
         work: Vec<u8>,
     },
+    Encode {
+        w: u32,
+        h: u32,
+        element: u32,
+        image: Vec<u8>,
+        out: Vec<u8>,
+        work: Vec<u8>,
+    },
 }
 
 /// The answer to a call, and the same call with every lent buffer as it is afterwards.
@@ -99,6 +110,8 @@ pub fn run(call: &Call) -> (Answer, Call) {
             crate::hit_or_miss(*w, *h, *fg, *bg, image, out),
         Call::Thin { w, h, image, work } =>
             crate::thin(*w, *h, image, work),
+        Call::Encode { w, h, element, image, out, work } =>
+            crate::encode(*w, *h, *element, image, out, work),
     };
     (answer, after)
 }
@@ -115,13 +128,15 @@ pub struct Parts<'a> {
     pub read: Option<&'a mut Vec<u8>>,
     /// The image that is only written.
     pub written: Option<&'a mut Vec<u8>>,
+    /// The output of a code, of any length.
+    pub stream: Option<&'a mut Vec<u8>>,
     pub labels: Option<&'a mut Vec<u8>>,
     pub work: Option<&'a mut Vec<u8>>,
     pub counters: Option<&'a mut Vec<u16>>,
 }
 
 /// The operations, in the order of `Call`.
-pub const OPERATIONS: [&str; 7] = [
+pub const OPERATIONS: [&str; 8] = [
     "erode",
     "open",
     "decompose",
@@ -129,6 +144,7 @@ pub const OPERATIONS: [&str; 7] = [
     "minimise",
     "hit_or_miss",
     "thin",
+    "encode",
 ];
 
 impl Call {
@@ -142,6 +158,7 @@ impl Call {
             Call::Minimise { .. } => 4,
             Call::HitOrMiss { .. } => 5,
             Call::Thin { .. } => 6,
+            Call::Encode { .. } => 7,
         }
     }
 
@@ -158,6 +175,7 @@ impl Call {
             mask: None,
             read: None,
             written: None,
+            stream: None,
             labels: None,
             work: None,
             counters: None,
@@ -187,16 +205,32 @@ impl Call {
             Call::Thin { w, h, image, work } => Parts {
                 read: Some(image), work: Some(work), ..none(w, h)
             },
+            Call::Encode { w, h, element, image, out, work } => Parts {
+                element: Some(element),
+                read: Some(image), stream: Some(out), work: Some(work), ..none(w, h)
+            },
         };
         parts
     }
 }
 
-/// The call of a seed: sound, or with one or two of its arguments damaged. Labels may be wild
-/// and cuts too large in any case. What is only written, and the work, hold anything.
+/// The call of a seed: sound, or with one or two of its arguments damaged. Labels may be wild,
+/// cuts too large and outputs of a code too short in any case. What is only written, and the
+/// work, hold anything.
 pub fn call(seed: u64) -> Call {
     let rng = &mut Rng::new(seed);
     let (w, h, operation) = (side(rng), side(rng), rng.below(OPERATIONS.len()));
+    drawn_call(rng, operation, w, h)
+}
+
+/// The same of one operation.
+pub fn call_of(operation: usize, seed: u64) -> Call {
+    let rng = &mut Rng::new(seed);
+    let (w, h) = (side(rng), side(rng));
+    drawn_call(rng, operation, w, h)
+}
+
+fn drawn_call(rng: &mut Rng, operation: usize, w: u32, h: u32) -> Call {
     let mut call = sound_call(rng, operation, w, h);
     for _ in 0..rng.pick(&[0, 0, 0, 0, 1, 1, 2]) {
         damage(rng, &mut call);
@@ -204,7 +238,8 @@ pub fn call(seed: u64) -> Call {
     call
 }
 
-/// A call of an operation on a frame, with lengths, padding, element and mask that are sound.
+/// A call of an operation on a frame, with lengths, padding, element and mask that are sound;
+/// the output of a code has any length.
 pub fn sound_call(rng: &mut Rng, operation: usize, w: u32, h: u32) -> Call {
     let frame = Frame::new(w, h).expect("sides from 1 to 255");
     let element = element(rng);
@@ -219,6 +254,10 @@ pub fn sound_call(rng: &mut Rng, operation: usize, w: u32, h: u32) -> Call {
     let work = rng.bytes(3 * image.len() + spare);
     let (n, (fg, bg)) = (cut_or_n(rng, &labels), mask(rng));
     let counters = (0..frame.pixels()).map(|_| rng.number() as u16).collect();
+    let stream = match operation {
+        7 => output(rng, stream_bytes(&frame.unpack(&image), element)),
+        _ => vec![],
+    };
     #[rustfmt::skip]
     let call = match operation {
         0 => Call::Erode { w, h, element, n, image, out: written, work },
@@ -227,9 +266,15 @@ pub fn sound_call(rng: &mut Rng, operation: usize, w: u32, h: u32) -> Call {
         3 => Call::Reconstruct { w, h, element, cut: n, labels, image: written, work },
         4 => Call::Minimise { w, h, element, labels, work, counters },
         5 => Call::HitOrMiss { w, h, fg, bg, image, out: written },
-        _ => Call::Thin { w, h, image, work },
+        6 => Call::Thin { w, h, image, work },
+        _ => Call::Encode { w, h, element, image, out: stream, work },
     };
     call
+}
+
+/// The bytes of an image's stream.
+fn stream_bytes(x: &Set, element: u32) -> usize {
+    code::encode(x, element).map_or(0, |code| code.stream.len())
 }
 
 /// The standard input of a seed for the program: sound, or damaged in one or two places.

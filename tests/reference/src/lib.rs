@@ -1,9 +1,10 @@
-//! An independent second program for the rules of document 01. It works on unpacked sets of
-//! points and on distances, not on packed planes that are eroded and dilated step by step,
-//! and it is the judge in comparisons: for any arguments and any lengths it says the answer
-//! and every lent byte afterwards.
+//! An independent second program for the rules of document 01 and the codes of 02. It works on
+//! unpacked sets of points and on distances, not on packed planes that are eroded and dilated
+//! step by step, and it is the judge in comparisons: for any arguments and any lengths it says
+//! the answer and every lent byte afterwards.
 
 pub mod cases;
+mod code;
 pub mod drawn;
 mod element;
 mod frame;
@@ -21,11 +22,12 @@ use refusal::{accept, Arguments};
 /// What an operation answers.
 #[derive(Clone, Debug, PartialEq)]
 pub enum Answer {
-    /// The number of the refusal. No lent byte has changed.
+    /// The number of the refusal. No lent byte has changed; but 8 leaves the first 3P bytes of
+    /// work 0.
     Refused(u8),
     /// The foreground points of the image written.
     Area(u32),
-    /// The image decomposed was blank: no points, no largest size.
+    /// The image decomposed or encoded was blank: no points, no largest size, no stream.
     Blank,
     /// The skeleton points and their largest size.
     Skeleton { points: u32, max_size: u32 },
@@ -37,6 +39,8 @@ pub enum Answer {
         removed: u32,
         area: u32,
     },
+    /// The bytes of the stream written and the largest size.
+    Coded { bytes: u32, max_size: u32 },
 }
 
 use Answer::*;
@@ -47,7 +51,7 @@ fn write(frame: Frame, set: &Set, image: &mut [u8]) -> Answer {
     Area(set.area())
 }
 
-/// Leaves the work buffer as after every success: 0 in the first 3P bytes.
+/// Leaves the work buffer as after every success and after refusal 8: 0 in the first 3P bytes.
 fn clear(frame: Frame, work: &mut [u8]) {
     work[..3 * frame.plane_bytes()].fill(0);
 }
@@ -233,6 +237,41 @@ pub fn thin(w: u32, h: u32, image: &mut [u8], work: &mut [u8]) -> Answer {
             passes,
             removed: before.area() - after.area(),
             area: after.area(),
+        }
+    })
+}
+
+/// The code of an image ("coded ticket") into the first bytes of an output of any length. Row 8
+/// applies where the stream is longer than it; a blank image has no stream.
+pub fn encode(
+    w: u32,
+    h: u32,
+    element: u32,
+    image: &[u8],
+    out: &mut [u8],
+    work: &mut [u8],
+) -> Answer {
+    let arguments = Arguments {
+        w,
+        h,
+        element: Some(element),
+        images: &[image.len()],
+        work: Some(work.len()),
+        read: Some(image),
+        ..Arguments::default()
+    };
+    accept(&arguments).map_or_else(Refused, |frame| {
+        clear(frame, work);
+        let Some(code) = code::encode(&frame.unpack(image), element) else {
+            return Blank;
+        };
+        let Some(first) = out.get_mut(..code.stream.len()) else {
+            return Refused(8);
+        };
+        first.copy_from_slice(&code.stream);
+        Coded {
+            bytes: code.stream.len() as u32,
+            max_size: code.max_size as u32,
         }
     })
 }

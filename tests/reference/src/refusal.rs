@@ -1,5 +1,5 @@
 //! The table of refusals of 01. A call names the arguments that it has; the first row that
-//! applies is the answer.
+//! applies is the answer. Row 8 of 02 asks for the stream, and is tested where that is written.
 
 use crate::element::ORIGIN;
 use crate::frame::Frame;
@@ -12,7 +12,7 @@ pub struct Arguments<'a> {
     pub w: u32,
     pub h: u32,
     pub element: Option<u32>,
-    /// The lengths of all lent images, read or written.
+    /// The lengths of all lent images, read or written. The output of a code is none.
     pub images: &'a [usize],
     /// The lengths of the other lent buffers.
     pub labels: Option<usize>,

@@ -1,9 +1,9 @@
 -- `calls::call` meets its contract: in each arm the operation's own outcome, beside the buffers that it does not have, is that of the number.
 use mathlib.Core.List.{[], _∷_}
-use native.Mathlib.Omega.{arith}
+use Prim.Native.Nat.{zero-le}
 use denote.Ref.{now}
 use Rattle.calls.specs.Called.{called}
-use Rattle.calls.proofs.CallLaws.{called-as, called-thin, decomposed-kept, minimised-kept, owed, owed-beside, thinned-kept, written-kept}
+use Rattle.calls.proofs.CallLaws.{called-as, called-encode, decomposed-kept, encoded-kept, minimised-kept, owed, owed-beside, past, thinned-kept, written-kept}
 use borrow.Author.Needs.{needs}
 use Rattle.calls.proofs.call.Statement.{statement}
 use Rattle.calls.proofs.call.Tie as tie
@@ -49,6 +49,12 @@ thin-requires c κs = search needs
 
 of-thinned-requires : tie.Need-of-thinned-requires
 of-thinned-requires c κs = search needs
+
+encode-requires : tie.Need-encode-requires
+encode-requires c κs = search needs
+
+of-encoded-requires : tie.Need-of-encoded-requires
+of-encoded-requires c κs = search needs
 
 same-length : tie.Need-same-length
 same-length c = search needs
@@ -149,10 +155,31 @@ same-length-14 c = search needs
 returns-7 : tie.Need-returns-7
 unfolding called
 returns-7 c =
-    let a = c .before .before .before .before .before .before .before .before .before .before .before .before .before .args in
-    let h = called-thin (a .w) (a .h) (a .a) (a .b) (now (a .x)) (now (a .y)) (now (a .z)) (now (a .c)) (a .op) (omega arith) in
     let o = c .before .before .before .before .before in
-    owed-beside (_ ∷ _ ∷ []) (_ ∷ []) (thinned-kept (o .thin .result)) (c .of-thinned .ensures) (o .thin .ensures) h
+    let m = o .before .before .before in
+    let a = m .before .before .before .before .before .args in
+    owed-beside (_ ∷ _ ∷ []) (_ ∷ []) (thinned-kept (o .thin .result)) (c .of-thinned .ensures) (o .thin .ensures)
+    (called-as (a .w) (a .h) (a .a) (a .b) (now (a .x)) (now (a .y)) (now (a .z)) (now (a .c)) 6 (m .match .keys7))
+
+same-length-15 : tie.Need-same-length-15
+same-length-15 c = search needs
+
+same-length-16 : tie.Need-same-length-16
+same-length-16 c = search needs
+
+returns-8 : tie.Need-returns-8
+unfolding called
+returns-8 c =
+    let m = c .before .before .before .before .before .before .before .before in
+    let a = m .before .before .before .before .before .args in
+    let r = m .match .rest in
+    let n = a .op in
+    let above =
+    past n 6 (past n 5 (past n 4 (past n 3 (past n 2 (past n 1 (past n 0 zero-le (r .0 .0 .0 .0 .0 .0 .1)) (r .0 .0 .0 .0 .0 .1)) (r .0 .0 .0 .0 .1))
+    (r .0 .0 .0 .1)) (r .0 .0 .1)) (r .0 .1)) (r .1) in
+    let h = called-encode (a .w) (a .h) (a .a) (a .b) (now (a .x)) (now (a .y)) (now (a .z)) (now (a .c)) (a .op) above in
+    let o = c .before .before .before .before .before in
+    owed-beside (_ ∷ _ ∷ []) (_ ∷ []) (encoded-kept (o .encode .result)) (c .of-encoded .ensures) (o .encode .ensures) h
 
 pub call-spec : {M : Type 1} → statement M
 call-spec =
@@ -172,6 +199,8 @@ call-spec =
     of-written-requires-4
     thin-requires
     of-thinned-requires
+    encode-requires
+    of-encoded-requires
     same-length
     same-length-2
     returns
@@ -192,4 +221,7 @@ call-spec =
     returns-6
     same-length-13
     same-length-14
-    returns-7)
+    returns-7
+    same-length-15
+    same-length-16
+    returns-8)

@@ -22,6 +22,9 @@ one-requires c κs = search needs
 enum-known-a-2 : tie.Need-enum-known-a-2
 enum-known-a-2 c = search needs
 
+two-requires : tie.Need-two-requires
+two-requires c κs = search needs
+
 returns : tie.Need-returns
 returns c = c .refused .ensures ∙ sym (ap (λ (a : Decomposed). replyOf (answerOf a)) (c .before .before .a .given .1))
 
@@ -29,7 +32,7 @@ returns-2 : tie.Need-returns-2
 returns-2 c = c .one .ensures ∙ sym (ap (λ (a : Decomposed). replyOf (answerOf a)) (c .before .enum-told .given .1))
 
 returns-3 : tie.Need-returns-3
-returns-3 c = sym (ap (λ (a : Decomposed). replyOf (answerOf a)) (c .before .a2 .given .1))
+returns-3 c = c .two .ensures ∙ sym (ap (λ (a : Decomposed). replyOf (answerOf a)) (c .before .before .a2 .given .1))
 
 pub of-decomposed-spec : {M : Type 1} → statement M
 of-decomposed-spec =
@@ -40,6 +43,7 @@ of-decomposed-spec =
     enum-told
     one-requires
     enum-known-a-2
+    two-requires
     returns
     returns-2
     returns-3)

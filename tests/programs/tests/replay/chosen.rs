@@ -1,8 +1,9 @@
-//! Calls of chosen kinds: every kind of image and of labels, every named element, every cut
-//! that matters, every mask of the house set.
+//! Calls of chosen kinds: every kind of image, of labels and of outputs, every named element,
+//! every cut that matters, every mask of the house set.
 
 use programs::replay::Replay;
 use reference::cases::{element, image_of, labels_of, mask, side, Call};
+use reference::cases::{output_of, OutputKind};
 use reference::cases::{LabelsKind, IMAGE_KINDS, LABELS_KINDS};
 use reference::rng::Rng;
 use reference::Answer::{self, Area, Refused};
@@ -92,6 +93,18 @@ impl Block {
         self.add(kind, Call::Minimise { w, h, element, labels, work, counters });
     }
 
+    /// Codes into outputs of each kind.
+    #[rustfmt::skip]
+    fn encode(&mut self, image: &[u8]) {
+        let (w, h, element) = (self.w, self.h, self.element);
+        let bytes = stream_bytes(self, image);
+        for (kind, name) in OUTPUTS {
+            let (image, out) = (image.to_vec(), output_of(&mut self.rng, kind, bytes));
+            let work = self.work();
+            self.add(name, Call::Encode { w, h, element, image, out, work });
+        }
+    }
+
     /// Hit-or-miss by the house set and two other masks; thinning.
     #[rustfmt::skip]
     fn hit_or_miss_and_thin(&mut self, image: &[u8]) {
@@ -105,6 +118,15 @@ impl Block {
         self.add("", Call::Thin { w, h, image, work });
     }
 }
+
+/// The kinds of outputs whose answer is known, by name.
+const OUTPUTS: [(OutputKind, &str); 5] = [
+    (OutputKind::Exact, "exactly enough"),
+    (OutputKind::Short, "one byte short"),
+    (OutputKind::Empty, "empty"),
+    (OutputKind::Longer, "longer"),
+    (OutputKind::FarLonger, "far longer"),
+];
 
 /// The cuts that matter for these labels, by name.
 fn cuts(labels: &[u8]) -> [(&'static str, u32); 7] {
@@ -182,6 +204,7 @@ fn every_kind_of_image() {
             block.minimise("", &labels);
             block.minimise("", &minimal);
             block.hit_or_miss_and_thin(&image);
+            block.encode(&image);
             agree(&mut replay, &mut met, &block);
         }
         let least = if kind == IMAGE_KINDS[0] { 0 } else { 10 };
@@ -206,6 +229,17 @@ fn every_kind_of_image() {
         reached(&met, operation, "", "blank");
     }
     reached(&met, "thin", "", "ink");
+    for output in ["exactly enough", "longer", "far longer"] {
+        reached(&met, "encode", output, "ink");
+        assert!(!met.contains_key(&("encode", output, "refused")));
+    }
+    for output in ["one byte short", "empty"] {
+        reached(&met, "encode", output, "refused");
+        assert!(!met.contains_key(&("encode", output, "ink")));
+    }
+    for (_, output) in OUTPUTS {
+        reached(&met, "encode", output, "blank");
+    }
     replay.end();
 }
 
@@ -248,6 +282,15 @@ fn skeleton(block: &Block, image: &[u8]) -> Vec<u8> {
     let mut work = vec![0; 3 * image.len()];
     reference::decompose(w, h, block.element, image, &mut labels, &mut work);
     labels
+}
+
+/// The bytes of an image's stream, by the second program; none of a blank image.
+fn stream_bytes(block: &Block, image: &[u8]) -> usize {
+    let (mut out, mut work) = (vec![0; 65_536], vec![0; 3 * image.len()]);
+    match reference::encode(block.w, block.h, block.element, image, &mut out, &mut work) {
+        Answer::Coded { bytes, .. } => bytes as usize,
+        _ => 0,
+    }
 }
 
 /// The minimal labels, by the second program.

@@ -2,6 +2,7 @@
 //! byte of every call.
 
 mod chosen;
+mod codes;
 mod refusals;
 mod seeded;
 mod settled;

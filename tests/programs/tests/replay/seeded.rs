@@ -38,6 +38,17 @@ fn seeded_calls() {
                 return count(operation, "row", *row as u32);
             }
             count(operation, "row", 0);
+            if let Answer::Blank = answer {
+                count(operation, "blank", 0);
+            }
+            if let (Answer::Coded { bytes, .. }, Some(out)) = (answer, p.stream) {
+                let kind = match out.len() - *bytes as usize {
+                    0 => "exactly enough",
+                    1 => "one byte more",
+                    _ => "more",
+                };
+                count(operation, kind, 0);
+            }
             count(operation, "width", *p.w);
             count(operation, "height", *p.h);
             if let Some(&mut element) = p.element {
@@ -55,7 +66,7 @@ fn seeded_calls() {
         let name = OPERATIONS[operation];
         assert!(times >= least, "{name}: {what} {value}: {times} times");
     };
-    let rows: [&[u32]; 7] = [
+    let rows: [&[u32]; 8] = [
         &[0, 1, 2, 3, 4, 7],
         &[0, 1, 2, 3, 4, 7],
         &[0, 1, 2, 3, 4],
@@ -63,6 +74,7 @@ fn seeded_calls() {
         &[0, 1, 2, 3, 5],
         &[0, 1, 3, 4, 6],
         &[0, 1, 3, 4],
+        &[0, 1, 2, 3, 4, 8],
     ];
     for (operation, rows) in rows.iter().enumerate() {
         rows.iter()
@@ -72,11 +84,14 @@ fn seeded_calls() {
             reached(operation, "height", side, 3);
         }
     }
-    for operation in 0..=4 {
+    for operation in [0, 1, 2, 3, 4, 7] {
         (2..=25).for_each(|points| reached(operation, "points", points, 5));
         for element in [473536, 145536, 15728622, 12288, 6144] {
             reached(operation, "element", element, 50);
         }
+    }
+    for what in ["blank", "exactly enough", "one byte more", "more"] {
+        reached(7, what, 0, 50);
     }
     for operation in [0, 1, 3] {
         for n in [0, 1, 255, 256, u32::MAX] {

@@ -1,9 +1,9 @@
-//! The cases A to M of 01, from the table that the second program is held to, and what a cut
-//! makes of shortened labels.
+//! The cases A to M of 01 and the codes of 02, from the tables that the second program is held
+//! to, and what a cut makes of shortened labels.
 
 use programs::format::{Message, Reply};
 use programs::replay::Replay;
-use reference::cases::{settled, shortened_at_a_cut, Call};
+use reference::cases::{coded, settled, shortened_at_a_cut, Call};
 use reference::drawn::{draw, image};
 use std::collections::BTreeSet;
 
@@ -19,6 +19,23 @@ fn cases_a_to_m() {
         cases.insert(settled.case);
     }
     assert_eq!(cases, ('A'..='M').collect());
+    replay.end();
+}
+
+/// The codes of A to E and G to I and of the sample of 000; some with too few bytes lent.
+#[test]
+fn codes_of_the_cases_and_of_the_sample() {
+    let mut replay = Replay::start();
+    let (mut cases, mut refused) = (BTreeSet::new(), 0);
+    for settled in coded() {
+        let reply = replay.call(&Message::from(&settled.call));
+        let wanted = Reply::new(&settled.answer, &settled.after);
+        assert_eq!(reply, wanted, "case {}: {:?}", settled.case, settled.call);
+        cases.insert(settled.case);
+        refused += (reply.row == 8) as u32;
+    }
+    assert_eq!(cases, "ABCDEGHIS".chars().collect());
+    assert!(refused >= 4, "{refused}");
     replay.end();
 }
 

@@ -36,9 +36,12 @@ fn every_width_and_height() {
         }
     }
     let mut replay = Replay::start();
-    assert!(replay.all_agree(&calls).len() >= 3 * 48 * 7);
+    assert!(replay.all_agree(&calls).len() >= 3 * 48 * OPERATIONS.len());
     replay.end();
 }
+
+/// The operations that have an element.
+const WITH_ELEMENT: [usize; 6] = [0, 1, 2, 3, 4, 7];
 
 /// 2 to 25 points: anywhere, all after the origin or all before it; most with holes.
 #[test]
@@ -49,7 +52,7 @@ fn elements_of_every_number_of_points() {
             if points as usize > bits.len() {
                 continue;
             }
-            for operation in 0..=4 {
+            for operation in WITH_ELEMENT {
                 let seed = 100 * points as u64 + 10 * side_of as u64 + operation as u64;
                 let rng = &mut Rng::new(seed);
                 let element = element_of(rng, points, bits.clone());
@@ -111,6 +114,23 @@ fn the_largest_sheet() {
             panic!("another call");
         };
         let largest = *labels.iter().max().expect("labels") as u32 - 1;
+        let encode = |len: usize| Call::Encode {
+            w,
+            h,
+            element,
+            image: image.clone(),
+            out: lent(len),
+            work: work(),
+        };
+        let (answer, _) = replay.agrees("the largest sheet", &encode(65_536));
+        let Answer::Coded { bytes, max_size } = answer else {
+            panic!("{answer:?}");
+        };
+        assert_eq!(max_size, largest);
+        let exact = bytes as usize;
+        assert_eq!(replay.agrees("exactly enough", &encode(exact)).0, answer);
+        let (answer, _) = replay.agrees("one byte short", &encode(exact - 1));
+        assert_eq!(answer, Refused(8));
         for cut in [0, largest, largest + 1] {
             let reconstruct = Call::Reconstruct {
                 w,

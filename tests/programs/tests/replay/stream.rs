@@ -53,7 +53,7 @@ fn input_that_ends_inside_a_call() {
 fn input_ends_at_an_unknown_operation() {
     let (calls, replies) = list(0..3);
     let (mut unknown, _) = both(3);
-    for operation in [7, 8, 128, 255] {
+    for operation in [8, 9, 128, 255] {
         unknown[0] = operation;
         let input = [&calls[..], &unknown, &calls].concat();
         assert!(run("replay", &input, 4096) == replies, "{operation}");
@@ -81,7 +81,7 @@ fn input_ends_at_a_length_above_the_buffers() {
 fn the_largest_buffers() {
     let rng = &mut Rng::new(1);
     let mut replay = Replay::start();
-    for operation in 0..7 {
+    for operation in 0..8 {
         let message = Message {
             operation,
             numbers: [255, 255, 473536, 0],
@@ -109,7 +109,7 @@ fn the_largest_buffers() {
 fn what_an_operation_does_not_use() {
     let rng = &mut Rng::new(2);
     let mut replay = Replay::start();
-    for seed in 0..700 {
+    for seed in 0..800 {
         let call = call(seed);
         let (mut message, mut wanted) = (Message::from(&call), Reply::expected(&call));
         let long = rng.below(40);
@@ -129,7 +129,10 @@ fn what_an_operation_does_not_use() {
         }
         if matches!(
             call,
-            Call::Decompose { .. } | Call::Minimise { .. } | Call::Thin { .. }
+            Call::Decompose { .. }
+                | Call::Minimise { .. }
+                | Call::Thin { .. }
+                | Call::Encode { .. }
         ) {
             message.numbers[3] = rng.number() as u32;
         }

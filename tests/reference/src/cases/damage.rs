@@ -56,12 +56,14 @@ pub const DAMAGES: &[Damage] = &[
     (7, |p| change_if(&mut p.cut_or_n, |n| n | 256)),
     (7, |p| change_if(&mut p.cut_or_n, |n| n | 65536)),
     (7, |p| change_if(&mut p.cut_or_n, |_| u32::MAX)),
+    (8, |p| shorten(&mut p.stream)),
+    (8, |p| empty(&mut p.stream)),
 ];
 
 /// Damages one argument, each row of the table as often as another.
 pub fn damage(rng: &mut Rng, call: &mut Call) {
     loop {
-        let row = rng.between(1, 7) as u8;
+        let row = rng.between(1, 8) as u8;
         let kinds: Vec<&Damage> = DAMAGES.iter().filter(|damage| damage.0 == row).collect();
         let (_, edit) = rng.pick(&kinds);
         if edit(&mut call.parts()) {

@@ -27,6 +27,9 @@ pub fn accepted() -> Vec<(Call, Vec<u8>)> {
             vec![1, 3, 4, 6]),
         (Call::Thin { w, h, image: image(), work: work() },
             vec![1, 3, 4]),
+        // Exactly enough for the stream.
+        (Call::Encode { w, h, element, image: image(), out: vec![0x5A; 2], work: vec![0xA5; 10] },
+            vec![1, 2, 3, 4, 8]),
     ];
     calls
 }
@@ -44,6 +47,18 @@ impl Damaged {
     pub fn row(&self) -> u8 {
         let applies = |row: &&u8| **row != 5 || !self.rows.contains(&7);
         *self.rows.iter().find(applies).expect("a row")
+    }
+
+    /// The call with every lent buffer as it is afterwards: no byte has changed, but that row 8
+    /// leaves the first 3P bytes of work 0.
+    pub fn after(&self) -> Call {
+        let mut after = self.call.clone();
+        if self.row() == 8 {
+            let p = after.parts();
+            let cleared = 3 * (p.w.div_ceil(8) * *p.h) as usize;
+            p.work.into_iter().for_each(|work| work[..cleared].fill(0));
+        }
+        after
     }
 
     /// The call with one damage more; none if it has no such argument.

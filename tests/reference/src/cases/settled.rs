@@ -117,7 +117,7 @@ fn lent(len: usize) -> Vec<u8> {
 }
 
 /// Work with one byte more than 3P.
-fn work(w: u32, h: u32) -> Vec<u8> {
+pub fn work(w: u32, h: u32) -> Vec<u8> {
     lent(3 * plane(w, h) + 1)
 }
 

@@ -1,5 +1,5 @@
-//! Sound arguments of many kinds: sides, elements, images, labels, cuts and masks. Labels may
-//! be wild, and cuts too large.
+//! Sound arguments of many kinds: sides, elements, images, labels, cuts, masks and outputs.
+//! Labels may be wild, cuts too large, and outputs of a code too short.
 
 use crate::element::{folds, ORIGIN};
 use crate::frame::{Frame, Set};
@@ -261,6 +261,61 @@ pub fn mask(rng: &mut Rng) -> (u32, u32) {
         }
     }
     (fg, bg)
+}
+
+/// The kinds of outputs that are lent for a stream, by their length.
+#[derive(Clone, Copy, Debug, PartialEq, Eq, PartialOrd, Ord)]
+pub enum OutputKind {
+    /// As many bytes as the stream has.
+    Exact,
+    /// One byte less, where there is one.
+    Short,
+    Empty,
+    /// Some bytes more.
+    Longer,
+    /// The longest that is lent.
+    FarLonger,
+    /// Any length up to twice the stream's.
+    Any,
+}
+
+pub const OUTPUT_KINDS: [OutputKind; 6] = [
+    OutputKind::Exact,
+    OutputKind::Short,
+    OutputKind::Empty,
+    OutputKind::Longer,
+    OutputKind::FarLonger,
+    OutputKind::Any,
+];
+
+/// The longest output: `replay` takes no longer buffer.
+const LONGEST: usize = 65_536;
+
+/// An output for a stream of so many bytes, those that are long enough more often. It holds
+/// anything.
+pub fn output(rng: &mut Rng, bytes: usize) -> Vec<u8> {
+    let kind = match rng.below(16) {
+        0..=4 => OutputKind::Exact,
+        5..=7 => OutputKind::Short,
+        8 => OutputKind::Empty,
+        9..=11 => OutputKind::Longer,
+        12 => OutputKind::FarLonger,
+        _ => OutputKind::Any,
+    };
+    output_of(rng, kind, bytes)
+}
+
+/// An output of this kind for a stream of so many bytes.
+pub fn output_of(rng: &mut Rng, kind: OutputKind, bytes: usize) -> Vec<u8> {
+    let len = match kind {
+        OutputKind::Exact => bytes,
+        OutputKind::Short => bytes.saturating_sub(1),
+        OutputKind::Empty => 0,
+        OutputKind::Longer => bytes + rng.between(1, 9),
+        OutputKind::FarLonger => LONGEST,
+        OutputKind::Any => rng.between(0, 2 * bytes),
+    };
+    rng.bytes(len)
 }
 
 #[cfg(test)]

@@ -29,6 +29,7 @@ fn generated_calls_meet_every_row_of_every_operation() {
         ("minimise", BTreeSet::from([0, 1, 2, 3, 5])),
         ("hit_or_miss", BTreeSet::from([0, 1, 3, 4, 6])),
         ("thin", BTreeSet::from([0, 1, 3, 4])),
+        ("encode", BTreeSet::from([0, 1, 2, 3, 4, 8])),
     ]);
     assert_eq!(met, expected);
 }

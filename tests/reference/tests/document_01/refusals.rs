@@ -1,19 +1,21 @@
 //! The table of refusals: each row alone, at its boundary, and every pair of rows that can
-//! occur in one call.
+//! occur in one call. Row 8 is that of 02.
 
 use crate::{calls, plain};
-use reference::cases::{accepted, call, damaged, run, Call, DAMAGES};
+use reference::cases::{accepted, call, damaged, run, Call, Damaged, DAMAGES};
 use reference::drawn::{full, image, labels};
 use reference::rng::Rng;
 use reference::Answer::*;
 use reference::{RIGHT, SQUARE};
 use std::collections::BTreeSet;
 
-/// The call is refused with this number, and no lent byte changes.
+/// The call is refused with this number, and no lent byte changes; but row 8 clears work.
 fn assert_refused(call: &Call, row: u8) {
     let (answer, after) = run(call);
     assert_eq!(answer, Refused(row), "{call:?}");
-    assert_eq!(&after, call);
+    let rows = vec![row];
+    let call = call.clone();
+    assert_eq!(after, Damaged { call, rows }.after());
 }
 
 /// Each row alone, each two rows and all rows of each operation: the lowest is answered.
@@ -109,6 +111,14 @@ fn row_of(call: &Call) -> u8 {
     if cut_or_n > 255 {
         return 7;
     }
+    // Only a code has an output of any length; where it is long enough, its bytes are answered.
+    if let (Some(image), Some(stream)) = (p.read, p.stream) {
+        let (mut out, mut work) = (vec![0; 65_536], vec![0; 3 * bytes]);
+        let whole = reference::encode(w as u32, h as u32, element, image, &mut out, &mut work);
+        if matches!(whole, Coded { bytes, .. } if bytes as usize > stream.len()) {
+            return 8;
+        }
+    }
     0
 }
 
@@ -142,7 +152,8 @@ fn any_numbers_and_any_lengths() {
                 *argument = number(rng);
             }
         }
-        for buffer in [p.read, p.written, p.labels, p.work].into_iter().flatten() {
+        let buffers = [p.read, p.written, p.stream, p.labels, p.work];
+        for buffer in buffers.into_iter().flatten() {
             if rng.one_in(8) {
                 let len = rng.below(40);
                 *buffer = rng.bytes(len);

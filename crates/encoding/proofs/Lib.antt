@@ -1,0 +1,5 @@
+pub mod SizeLaws
+pub mod MeasureLaws
+pub mod StreamLaws
+pub mod LastLaws
+pub mod OutcomeLaws

@@ -1,0 +1,5 @@
+pub mod KindLaws
+pub mod PenLaws
+pub mod WordLaws
+pub mod DenseLaws
+pub mod PlaneLaws
