@@ -47,17 +47,18 @@ run-long : (r : ℕ) (rs : List ℕ) → length (runsSymbols (r ∷ rs)) ≡ 0 �
 unfolding runsSymbols
 run-long r rs e = omega (arith, e, length-append (digitSymbols (numeral r)) (comma ∷ runsSymbols rs))
 
-by-runs : (rs : List ℕ) → length (section (map numeral rs)) ≡ length (runsSymbols rs) + length (ending rs)
-by-runs rs = ap length (section-runs rs) ∙ length-append (runsSymbols rs) (ending rs)
+-- the runs and their commas, and those that end it
+pub section-parts : (rs : List ℕ) → length (section (map numeral rs)) ≡ length (runsSymbols rs) + length (ending rs)
+section-parts rs = ap length (section-runs rs) ∙ length-append (runsSymbols rs) (ending rs)
 
 pub section-none : (rs : List ℕ) → length (runsSymbols rs) ≡ 0 → length (section (map numeral rs)) ≡ 2
-section-none [] e = omega (arith, e, by-runs [])
+section-none [] e = omega (arith, e, section-parts [])
 section-none (r ∷ rs) e = absurd (run-long r rs e)
 
 pub section-some : (rs : List ℕ) → (length (runsSymbols rs) ≡ 0 → ⊥) → length (section (map numeral rs)) ≡ length (runsSymbols rs) + 1
 unfolding runsSymbols
 section-some [] f = absurd (f refl)
-section-some (r ∷ rs) f = by-runs (r ∷ rs)
+section-some (r ∷ rs) f = section-parts (r ∷ rs)
 
 -- a section of two symbols has no run
 pub section-two : (rs : List ℕ) → length (section (map numeral rs)) ≡ 2 → section (map numeral rs) ≡ comma ∷ comma ∷ []
@@ -69,7 +70,7 @@ section-two (r ∷ rs) e = absurd (long (numeral r) (rest (numeral-some r)))
     numeral-some n = length-pos n
 
     rest : 0 < length (numeral r) → 2 < length (section (map numeral (r ∷ rs)))
-    rest h = omega (arith, by-runs (r ∷ rs), length-append (digitSymbols (numeral r)) (comma ∷ runsSymbols rs), length-map (numeral r) suc)
+    rest h = omega (arith, section-parts (r ∷ rs), length-append (digitSymbols (numeral r)) (comma ∷ runsSymbols rs), length-map (numeral r) suc)
 
     long : (ds : List ℕ) → 2 < length (section (map numeral (r ∷ rs))) → ⊥
     long ds h = omega arith

@@ -23,7 +23,7 @@ use Rattle.morphology.proofs.MorphologyLaws.{eroded-suc, eroded-zero}
 use Rattle.morphology.proofs.TestLaws.{and-in}
 use Rattle.sections.specs.Pens.{Marked, Room}
 use Rattle.encoding.specs.Sizes.{symbolsBelow}
-use Rattle.encoding.proofs.SizeLaws.{below-suc, section-two}
+use Rattle.encoding.proofs.SizeLaws.{below-suc, section-parts, section-two}
 
 -- ---- bytes and their symbols
 
@@ -67,10 +67,6 @@ sets-commas a e t rest =
 ending-commas : (rs : List ℕ) → replicate (length (ending rs)) 0 ≡ ending rs
 ending-commas [] = refl
 ending-commas (r ∷ rs) = refl
-
--- its length, by those of its runs and of its end
-section-parts : (rs : List ℕ) → length (section (map numeral rs)) ≡ length (runsSymbols rs) + length (ending rs)
-section-parts rs = ap length (section-runs rs) ∙ length-append (runsSymbols rs) (ending rs)
 
 -- runs written over as many commas as their section has symbols leave the section
 sets-section : (a m : ℕ) (rs rest : List ℕ) → m ≡ a + length (section (map numeral rs))
