@@ -22,7 +22,7 @@ use Rattle.morphology.proofs.PlaneLaws.{empty-eq, none, none-on, pack-none}
 use Rattle.raster.proofs.PartLaws.{PartIs, part-back}
 use Rattle.sections.specs.Kinds.{kindsFrom, runsOf}
 use Rattle.sections.proofs.KindLaws.{frame-runs}
-use Rattle.encoding.specs.Sizes.{Gone, Passed, inkRuns}
+use Rattle.encoding.specs.Sizes.{Gone, SizesPassed, inkRuns}
 use Rattle.encoding.proofs.SizeLaws.{passed-image}
 
 -- ---- the third plane, lent, cleared, and back
@@ -71,7 +71,7 @@ module _ {W H r p : ℕ} (sheet : Sheet W H r p) (old : List ℕ) (h : 3 * p ≤
 
 -- where the next size has no ink, all ink is in runs
 pub passed-last : {W H r p : ℕ} (e : ℕ) → Sheet W H r p → T (isElement e) → {X : Point → Bool} → OnFrame W H X → {n : ℕ} {w₀ w : List ℕ}
-    → Passed W H p (offsets e) X n w₀ w → {m : ℕ} → m ≡ suc n → Gone (offsets e) X m → inkRuns W H w ≡ erodedRuns W H (offsets e) X n
+    → SizesPassed W H p (offsets e) X n w₀ w → {m : ℕ} → m ≡ suc n → Gone (offsets e) X m → inkRuns W H w ≡ erodedRuns W H (offsets e) X n
 passed-last {W} {H} e sheet el {X} on {n} t q gone =
     let B = offsets e in
     let Z = erode (times B (suc n)) X in

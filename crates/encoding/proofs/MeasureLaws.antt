@@ -28,9 +28,9 @@ use Rattle.morphology.proofs.PlaneLaws.{empty-pack, pack-empty, some-point}
 use Rattle.raster.specs.Frames.{Frame}
 use Rattle.raster.specs.Limits.{maxFrame}
 use Rattle.sections.specs.Kinds.{kindsFrom}
-use Rattle.sections.specs.Pens.{Marked, Room}
+use Rattle.sections.specs.Pens.{Marked, PenRoom}
 use Rattle.sections.proofs.KindLaws.{frame-runs, symbols-le}
-use Rattle.encoding.specs.Sizes.{Lengths, Passed, openRuns, symbolsBelow}
+use Rattle.encoding.specs.Sizes.{Lengths, SizesPassed, openRuns, symbolsBelow}
 use Rattle.encoding.proofs.SizeLaws.{below-suc, passed-runs}
 
 -- ---- how long a section is
@@ -57,7 +57,7 @@ eroded-le : (W H : ℕ) (B : List Point) (X : Point → Bool) (n : ℕ) → leng
 eroded-le W H B X n = runs-le W H (erode (times B n) X) (dilate B (erode (times B (suc n)) X))
 
 -- a pen that is up has room
-pub room-up : {W H r : ℕ} → Frame W H r → (B : List Point) (work s : List ℕ) → Room false s 0 (openRuns W H B work)
+pub room-up : {W H r : ℕ} → Frame W H r → (B : List Point) (work s : List ℕ) → PenRoom false s 0 (openRuns W H B work)
 room-up {W} {H} f B work s = record {
   small = omega (arith, open-le W H B work, frame-small f);
   inside = λ t. absurd t;
@@ -112,7 +112,7 @@ zeros-none zero = refl
 zeros-none (suc n) = zeros-none n
 
 module _ {W H r p : ℕ} (e : ℕ) (sheet : Sheet W H r p) (el : T (isElement e)) {X : Point → Bool} (on : OnFrame W H X) {n : ℕ} {w₀ w : List ℕ}
-    (t : Passed W H p (offsets e) X n w₀ w) where
+    (t : SizesPassed W H p (offsets e) X n w₀ w) where
   abbrev Y : Point → Bool
   Y = erode (times (offsets e) n) X
 

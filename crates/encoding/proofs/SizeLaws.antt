@@ -16,7 +16,7 @@ use Rattle.coding.specs.Writing.{downFrom, ending, erodedRuns, runsSymbols}
 use Rattle.coding.proofs.MaskLaws.{map-eroded}
 use Rattle.coding.proofs.NumeralLaws.{length-pos}
 use Rattle.coding.proofs.SectionLaws.{section-runs}
-use Rattle.iteration.specs.Bands.{Banded, Eroded}
+use Rattle.iteration.specs.Bands.{Banded, PlaneEroded}
 use Rattle.iteration.specs.Steps.{First, Sheet}
 use Rattle.iteration.proofs.BandLaws.{band-fit, band-image, band-rows}
 use Rattle.iteration.proofs.OpenLaws.{opened-first, opened-third}
@@ -39,7 +39,7 @@ use Rattle.raster.specs.Rows.{overwrite}
 use Rattle.raster.proofs.RowLaws.{rows-in}
 use Rattle.sections.specs.Kinds.{Kind, countAfter, free, kind, kindsFrom, runsOf}
 use Rattle.sections.proofs.KindLaws.{frame-runs, row-agree, row-parts, runs-parts}
-use Rattle.encoding.specs.Sizes.{Passed, Stepped, lackingRuns, openRuns, symbolsBelow}
+use Rattle.encoding.specs.Sizes.{SizesPassed, SizeStepped, lackingRuns, openRuns, symbolsBelow}
 
 -- ---- sections by the symbols of their runs
 
@@ -142,13 +142,13 @@ module _ (W H r p e : ℕ) (old : List ℕ) (f : Frame W H r) (hp : H * r ≤ p)
       ap₂ (λ (S M : Point → Bool). runsOf k (kindsFrom W S M 0 (W * H))) (opened-first W H r p e old f hp h w′ q) (opened-third W H r p e old f hp h w′ q)
 
 -- the plane's bytes by another name
-pub stepped-as : {down : Bool} {W H p q : ℕ} {B : List Point} {w w′ o o′ : List ℕ} {at at′ : ℕ} → p ≡ q → Stepped down W H p B w w′ o o′ at at′
-    → Stepped down W H q B w w′ o o′ at at′
-stepped-as {down} {W} {H} {B = B} {w} {w′} {o} {o′} {at} {at′} e d = subst (λ (k : ℕ). Stepped down W H k B w w′ o o′ at at′) e d
+pub stepped-as : {down : Bool} {W H p q : ℕ} {B : List Point} {w w′ o o′ : List ℕ} {at at′ : ℕ} → p ≡ q → SizeStepped down W H p B w w′ o o′ at at′
+    → SizeStepped down W H q B w w′ o o′ at at′
+stepped-as {down} {W} {H} {B = B} {w} {w′} {o} {o′} {at} {at′} e d = subst (λ (k : ℕ). SizeStepped down W H k B w w′ o o′ at at′) e d
 
 -- ---- the sizes one after the other
 
-pub passed-start : (W H p e : ℕ) (w : List ℕ) → First W H p (imageSet W H w) w w → Passed W H p (offsets e) (imageSet W H w) 0 w w
+pub passed-start : (W H p e : ℕ) (w : List ℕ) → First W H p (imageSet W H w) w w → SizesPassed W H p (offsets e) (imageSet W H w) 0 w w
 passed-start W H p e w a = record {
   size = refl;
   eroded = a .first ∙ ap (pack W H) (sym (eroded-zero (offsets e) (imageSet W H w)));
@@ -156,7 +156,7 @@ passed-start W H p e w a = record {
 }
 
 module _ {W H r p : ℕ} (e : ℕ) (sheet : Sheet W H r p) (el : T (isElement e)) {X : Point → Bool} (on : OnFrame W H X) {n : ℕ} {w₀ w : List ℕ}
-    (t : Passed W H p (offsets e) X n w₀ w) where
+    (t : SizesPassed W H p (offsets e) X n w₀ w) where
   abbrev B : List Point
   B = offsets e
 
@@ -182,7 +182,7 @@ module _ {W H r p : ℕ} (e : ℕ) (sheet : Sheet W H r p) (el : T (isElement e)
       ap (λ (Z : Point → Bool). runs Z 0 (unmasked W H (opening B Z))) passed-image
       ∙ ap (λ (Z : Point → Bool). runs Y 0 (unmasked W H (dilate B Z))) (sym (eroded-suc B n X))
 
-  pub passed-more : {w′ : List ℕ} → Eroded W H p (offsets e) w w′ → Passed W H p (offsets e) X (n + 1) w₀ w′
+  pub passed-more : {w′ : List ℕ} → PlaneEroded W H p (offsets e) w w′ → SizesPassed W H p (offsets e) X (n + 1) w₀ w′
   passed-more d = record {
     size = d .size ∙ t .size;
     eroded = d .first ∙ ap (λ (Z : Point → Bool). pack W H (erode B Z)) passed-image

@@ -13,7 +13,7 @@ use Rattle.coding.specs.Symbols.{numeral, packSymbols, section, symbolsOf}
 use Rattle.coding.specs.Writing.{ending, runsSymbols}
 use Rattle.coding.proofs.PackLaws.{length-symbols, pack-padded, pack-symbols}
 use Rattle.coding.proofs.SectionLaws.{section-runs}
-use Rattle.iteration.specs.Bands.{Eroded}
+use Rattle.iteration.specs.Bands.{PlaneEroded}
 use Rattle.iteration.specs.Steps.{First}
 use Rattle.iteration.proofs.StepLaws.{drop-later}
 use Rattle.morphology.specs.Image.{imageSet, pack}
@@ -21,7 +21,7 @@ use Rattle.morphology.specs.Morphology.{erode, times}
 use Rattle.morphology.specs.Point.{Point}
 use Rattle.morphology.proofs.MorphologyLaws.{eroded-suc, eroded-zero}
 use Rattle.morphology.proofs.TestLaws.{and-in}
-use Rattle.sections.specs.Pens.{Marked, Room}
+use Rattle.sections.specs.Pens.{Marked, PenRoom}
 use Rattle.encoding.specs.Sizes.{symbolsBelow}
 use Rattle.encoding.proofs.SizeLaws.{below-suc, section-parts, section-two}
 
@@ -100,14 +100,14 @@ abbrev pub padding : ℕ → List ℕ
 padding symbols = replicate (4 * ((symbols + 3) / 4) - symbols) 0
 
 -- the sizes below n are written, from `end` on, in a stream that is to have `symbols`
-pub record Written (f : ℕ → List ℕ) (n symbols end : ℕ) (out : List ℕ) : Type 0 where
+pub record Streamed (f : ℕ → List ℕ) (n symbols end : ℕ) (out : List ℕ) : Type 0 where
   pub place : end + length (symbolsBelow f n) ≡ symbols
   pub stream : symbolsOf out ≡ replicate end 0 ++ (symbolsBelow f n ++ padding symbols)
   pub bytes : (i : ℕ) → getD out i 0 < 256
 
 -- none at first
 pub written-none : (f : ℕ → List ℕ) (symbols : ℕ) (out : List ℕ) → out ≡ replicate ((symbols + 3) / 4) 0 → ((i : ℕ) → getD out i 0 < 256)
-    → Written f 0 symbols symbols out
+    → Streamed f 0 symbols symbols out
 unfolding symbolsBelow
 written-none f symbols out e b =
     let k = (symbols + 3) / 4 in
@@ -119,7 +119,7 @@ written-none f symbols out e b =
       bytes = b;
     }
 
-module _ {f : ℕ → List ℕ} {n symbols end : ℕ} {out : List ℕ} (w : Written f n symbols end out) where
+module _ {f : ℕ → List ℕ} {n symbols end : ℕ} {out : List ℕ} (w : Streamed f n symbols end out) where
   -- the symbols after the end
   abbrev after : List ℕ
   after = symbolsBelow f n ++ padding symbols
@@ -147,7 +147,7 @@ module _ {f : ℕ → List ℕ} {n symbols end : ℕ} {out : List ℕ} (w : Writ
 
   module _ (a : ℕ) (next : end ≡ a + length (section (map numeral (f n)))) where
     -- commas, for its runs
-    pub written-room : symbols < 2 ^ 40 → Room true out a (f n)
+    pub written-room : symbols < 2 ^ 40 → PenRoom true out a (f n)
     written-room h = record {
       small = omega (arith, section-parts (f n), next, w .place);
       inside = λ t. omega (arith, section-parts (f n), next, w .place, written-size);
@@ -159,7 +159,7 @@ module _ {f : ℕ → List ℕ} {n symbols end : ℕ} {out : List ℕ} (w : Writ
 
     -- and is one more when it is there
     one-more : (out′ : List ℕ) → ((i : ℕ) → getD out′ i 0 < 256) → symbolsOf out′ ≡ replicate a 0 ++ (section (map numeral (f n)) ++ after)
-        → Written f (n + 1) symbols a out′
+        → Streamed f (n + 1) symbols a out′
     one-more out′ b e =
         let s = section (map numeral (f n)) in
         record {
@@ -171,13 +171,13 @@ module _ {f : ℕ → List ℕ} {n symbols end : ℕ} {out : List ℕ} (w : Writ
 
     -- by its runs
     pub written-runs : {rs out′ : List ℕ} {a′ : ℕ} → rs ≡ f n → Marked true rs out out′ a a′ → ((i : ℕ) → getD out′ i 0 < 256)
-        → Written f (n + 1) symbols a out′
+        → Streamed f (n + 1) symbols a out′
     written-runs {rs} {out′} e m b =
         one-more out′ b
         (m .symbols ∙ ap₂ (λ (l ss : List ℕ). sets l a (runsSymbols ss)) (w .stream) e ∙ sets-section a end (f n) after next)
 
     -- or as it stands, where it is two commas
-    pub written-two : length (section (map numeral (f n))) ≡ 2 → Written f (n + 1) symbols a out
+    pub written-two : length (section (map numeral (f n))) ≡ 2 → Streamed f (n + 1) symbols a out
     written-two two = one-more out (w .bytes) (w .stream ∙ commas-section a end (f n) after next two)
 
   -- all are written: the bytes of the symbols
@@ -191,7 +191,7 @@ module _ {f : ℕ → List ℕ} {n symbols end : ℕ} {out : List ℕ} (w : Writ
 -- ---- the plane
 
 -- once is an erosion
-pub eroded-once : (W H p : ℕ) (B : List Point) (w w′ : List ℕ) → First W H p (erode (times B 1) (imageSet W H w)) w w′ → Eroded W H p B w w′
+pub eroded-once : (W H p : ℕ) (B : List Point) (w w′ : List ℕ) → First W H p (erode (times B 1) (imageSet W H w)) w w′ → PlaneEroded W H p B w w′
 eroded-once W H p B w w′ a =
     let X = imageSet W H w in
     record {

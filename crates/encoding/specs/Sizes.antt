@@ -8,7 +8,7 @@ use lib.ListN.{drop, getD, length, take}
 use Rattle.coding.specs.Runs.{runs, unmasked}
 use Rattle.coding.specs.Symbols.{numeral, section}
 use Rattle.coding.specs.Writing.{erodedRuns}
-use Rattle.iteration.specs.Bands.{Eroded}
+use Rattle.iteration.specs.Bands.{PlaneEroded}
 use Rattle.morphology.specs.Answers.{Answer, answered, blank}
 use Rattle.morphology.specs.Element.{isElement}
 use Rattle.morphology.specs.Image.{imageSet, isClean, pack}
@@ -22,7 +22,7 @@ use Rattle.sections.specs.Pens.{Marked}
 -- ---- one size
 
 -- what it begins with: three planes, p bytes apart, of which the first is clean
-pub record TurnStart (W H r p e : ℕ) (work : List ℕ) : Type 0 where
+pub record SizeStart (W H r p e : ℕ) (work : List ℕ) : Type 0 where
   pub frame : Frame W H r
   pub apart : H * r ≤ p
   pub planes : p + p + H * r ≤ length work
@@ -34,7 +34,7 @@ abbrev pub lackingRuns : ℕ → ℕ → List Point → ℕ → List ℕ → Lis
 lackingRuns W H B k work = runsOf k (kindsFrom W (imageSet W H work) (opening B (imageSet W H work)) 0 (W * H))
 
 -- these runs marked, and the first plane eroded by way of the others
-pub record Turned (down : Bool) (W H p : ℕ) (B : List Point) (k : ℕ) (work work′ out out′ : List ℕ) (at at′ : ℕ) : Type 0 where
+pub record SizeTurned (down : Bool) (W H p : ℕ) (B : List Point) (k : ℕ) (work work′ out out′ : List ℕ) (at at′ : ℕ) : Type 0 where
   pub planes :
       let X = imageSet W H work in
       let E = pack W H (erode B X) in
@@ -49,8 +49,8 @@ openRuns W H B work = let X = imageSet W H work in runs X 0 (unmasked W H (openi
 abbrev pub inkRuns : ℕ → ℕ → List ℕ → List ℕ
 inkRuns W H work = runs (imageSet W H work) 0 (unmasked W H (λ z. false))
 
-pub record Stepped (down : Bool) (W H p : ℕ) (B : List Point) (work work′ out out′ : List ℕ) (at at′ : ℕ) : Type 0 where
-  pub planes : Eroded W H p B work work′
+pub record SizeStepped (down : Bool) (W H p : ℕ) (B : List Point) (work work′ out out′ : List ℕ) (at at′ : ℕ) : Type 0 where
+  pub planes : PlaneEroded W H p B work work′
   pub runs : Marked down (openRuns W H B work) out out′ at at′
 
 -- ---- the sizes one after the other
@@ -61,7 +61,7 @@ symbolsBelow f zero = []
 symbolsBelow f (suc n) = section (map numeral (f n)) ++ symbolsBelow f n
 
 -- after n sizes: the plane of X(n), from the fourth on as it was
-pub record Passed (W H p : ℕ) (B : List Point) (X : Point → Bool) (n : ℕ) (work₀ work : List ℕ) : Type 0 where
+pub record SizesPassed (W H p : ℕ) (B : List Point) (X : Point → Bool) (n : ℕ) (work₀ work : List ℕ) : Type 0 where
   pub size : length work ≡ length work₀
   pub eroded : take p work ≡ pack W H (erode (times B n) X)
   pub rest : drop (3 * p) work ≡ drop (3 * p) work₀

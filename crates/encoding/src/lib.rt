@@ -15,9 +15,9 @@ ghost use Rattle.morphology.specs.Answers.{outcome};
 ghost use Rattle.morphology.specs.Element.{offsets, isElement};
 ghost use Rattle.morphology.specs.Image.{imageSet, isClean};
 ghost use Rattle.raster.specs.Limits.{maxFrame};
-ghost use Rattle.sections.specs.Pens.{Marked, Room};
+ghost use Rattle.sections.specs.Pens.{Marked, PenRoom};
 ghost use Rattle.encoding.specs.Encoded.{answerOf};
-ghost use Rattle.encoding.specs.Sizes.{TurnStart, Turned, Stepped, Lengths, Gone, Measured, lackingRuns, openRuns, inkRuns, symbolsBelow, sizesAnswer};
+ghost use Rattle.encoding.specs.Sizes.{SizeStart, SizeTurned, SizeStepped, Lengths, Gone, Measured, lackingRuns, openRuns, inkRuns, symbolsBelow, sizesAnswer};
 
 // The answer of the writer; an empty image has no stream and no largest size.
 pub enum Encoded {
@@ -39,9 +39,9 @@ fn turn(
     out: &mut [u8],
     work: &mut [u8],
 ) -> usize
-    requires { ⌜ TurnStart w h r p element (now work) × (before + w * h < 2 ^ 24)
-        × Room down (now out) at (lackingRuns w h (offsets element) before (now work)) ⌝ }
-    ensures { λ e. ⌜ Turned down w h p (offsets element) before (now (work .entry)) (now (work .exit)) (now (out .entry)) (now (out .exit)) at e ⌝ }
+    requires { ⌜ SizeStart w h r p element (now work) × (before + w * h < 2 ^ 24)
+        × PenRoom down (now out) at (lackingRuns w h (offsets element) before (now work)) ⌝ }
+    ensures { λ e. ⌜ SizeTurned down w h p (offsets element) before (now (work .entry)) (now (work .exit)) (now (out .entry)) (now (out .exit)) at e ⌝ }
 {
     planes::open_plane(w, h, r, p, element, work);
     let end = sections::walk_plane(down, w, h, r, p + p, &work[..], at, before, out);
@@ -62,9 +62,9 @@ fn turn_band(
     out: &mut [u8],
     work: &mut [u8],
 ) -> usize
-    requires { ⌜ TurnStart w h r (h * r) element (now work) × Banded h r from to (take (h * r) (now work))
-        × Room down (now out) at (openRuns w h (offsets element) (now work)) ⌝ }
-    ensures { λ e. ⌜ Stepped down w h (h * r) (offsets element) (now (work .entry)) (now (work .exit)) (now (out .entry)) (now (out .exit)) at e ⌝ }
+    requires { ⌜ SizeStart w h r (h * r) element (now work) × Banded h r from to (take (h * r) (now work))
+        × PenRoom down (now out) at (openRuns w h (offsets element) (now work)) ⌝ }
+    ensures { λ e. ⌜ SizeStepped down w h (h * r) (offsets element) (now (work .entry)) (now (work .exit)) (now (out .entry)) (now (out .exit)) at e ⌝ }
 {
     let before = (from * w) as u32;
     turn(
@@ -94,8 +94,8 @@ fn take_size(
     work: &mut [u8],
 ) -> usize
     requires { ⌜ Sheet w h r p × (3 * p ≤ length (now work)) × T (isElement element) × T (isClean w h (now work))
-        × Room down (now out) at (openRuns w h (offsets element) (now work)) ⌝ }
-    ensures { λ e. ⌜ Stepped down w h p (offsets element) (now (work .entry)) (now (work .exit)) (now (out .entry)) (now (out .exit)) at e ⌝ }
+        × PenRoom down (now out) at (openRuns w h (offsets element) (now work)) ⌝ }
+    ensures { λ e. ⌜ SizeStepped down w h p (offsets element) (now (work .entry)) (now (work .exit)) (now (out .entry)) (now (out .exit)) at e ⌝ }
 {
     let from = raster::bands::first_row(&work[..p], r, 0, h);
     let to = raster::bands::end_row(&work[..p], r, from, h);
@@ -151,7 +151,7 @@ fn measure(
 
 // The runs of the largest size, which nothing masks, from the stream's start on: the first plane needs no opening. Answers where the pen stands.
 fn write_last(w: usize, h: usize, r: usize, p: usize, out: &mut [u8], work: &mut [u8]) -> usize
-    requires { ⌜ Sheet w h r p × (3 * p ≤ length (now work)) × Room true (now out) 0 (inkRuns w h (now work)) ⌝ }
+    requires { ⌜ Sheet w h r p × (3 * p ≤ length (now work)) × PenRoom true (now out) 0 (inkRuns w h (now work)) ⌝ }
     ensures { λ e. ⌜ Marked true (inkRuns w h (now (work .entry))) (now (out .entry)) (now (out .exit)) 0 e
         × (length (now (work .exit)) ≡ length (now (work .entry))) × (drop (3 * p) (now (work .exit)) ≡ drop (3 * p) (now (work .entry))) ⌝ }
 {

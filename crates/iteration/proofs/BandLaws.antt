@@ -25,7 +25,7 @@ use Rattle.raster.specs.Frames.{Frame}
 use Rattle.raster.proofs.PackLaws.{frame-bytes, frame-row}
 use Rattle.raster.proofs.RowLaws.{rows-in}
 use Rattle.raster.specs.Bands.{BlankRow, EndRow, FirstRow}
-use Rattle.iteration.specs.Bands.{Banded, Eroded}
+use Rattle.iteration.specs.Bands.{Banded, PlaneEroded}
 use Rattle.iteration.specs.Steps.{Sheet}
 use Rattle.iteration.proofs.StepLaws.{first-start}
 
@@ -172,7 +172,7 @@ module _ (W H r a b e : ℕ) (work : List ℕ) (f : Frame W H r) (h : 3 * (H * r
         → ys ≡ overwrite 0 (pack W (b - a) (erode (offsets e) (imageSet W (b - a) (take k (drop (a * r) work)))))
         (overwrite (H * r + H * r) (pack W (b - a) (opening (offsets e) (imageSet W (b - a) (take k (drop (a * r) work)))))
         (overwrite (H * r) (pack W (b - a) (erode (offsets e) (imageSet W (b - a) (take k (drop (a * r) work))))) (take k (drop (a * r) work))))
-        → Eroded W H (H * r) (offsets e) work (take (a * r) work ++ (ys ++ drop k (drop (a * r) work)))
+        → PlaneEroded W H (H * r) (offsets e) work (take (a * r) work ++ (ys ++ drop k (drop (a * r) work)))
     unfolding u moved
     band-eroded ys t = record {
       size = whole .size;

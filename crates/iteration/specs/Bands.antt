@@ -17,7 +17,7 @@ pub record Banded (h r a b : ℕ) (s : List ℕ) : Type 0 where
   pub ink : a < b → BlankRow r s a → ⊥
 
 -- after a turn: the first plane eroded, from the fourth on as it was
-pub record Eroded (W H p : ℕ) (B : List Point) (work work′ : List ℕ) : Type 0 where
+pub record PlaneEroded (W H p : ℕ) (B : List Point) (work work′ : List ℕ) : Type 0 where
   pub size : length work′ ≡ length work
   pub first : take p work′ ≡ pack W H (erode B (imageSet W H work))
   pub rest : drop (3 * p) work′ ≡ drop (3 * p) work

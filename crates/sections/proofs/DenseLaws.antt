@@ -191,14 +191,14 @@ sized k (suc m) v d = by-bit (bit v m) (λ e. one e (sized 0 m v below)) (λ e. 
         )
 
 -- a dense word of 64 pixels
-abbrev pub Measured : ℕ → ℕ → Type 0
-Measured k v = (0 < ones v) × (size k 64 v + 1 ≡ length (numeral (k + leadingZeros 64 v)) + 2 * ones v)
+abbrev pub DenseMeasured : ℕ → ℕ → Type 0
+DenseMeasured k v = (0 < ones v) × (size k 64 v + 1 ≡ length (numeral (k + leadingZeros 64 v)) + 2 * ones v)
 
 module _ (k v : ℕ) (dense : Dense 64 v) (fits : v < 2 ^ 64) where
-  pub dense-size : Measured k v
+  pub dense-size : DenseMeasured k v
   dense-size = by (sized k 64 v dense)
     where
-      by : Sized k 64 v → Measured k v
+      by : Sized k 64 v → DenseMeasured k v
       by (inl p) =
           let e = ap ones (mod-eq-of-lt fits) in
           (omega (arith, p .0, e), omega (arith, p .1, e, ap (λ (x : ℕ). length (numeral (k + x))) (lead-is v fits)))

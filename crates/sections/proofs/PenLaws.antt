@@ -14,7 +14,7 @@ use Rattle.coding.proofs.NumeralLaws.{length-small, numeral-small}
 use Rattle.coding.proofs.SectionLaws.{runs-append}
 use Rattle.coding.proofs.StoreLaws.{symbols-size}
 use Rattle.sections.specs.Kinds.{Kind, countAfter, runsOf}
-use Rattle.sections.specs.Pens.{Marked, Room, Walked, marks}
+use Rattle.sections.specs.Pens.{Marked, PenRoom, PenWalked, marks}
 use Rattle.sections.proofs.KindLaws.{count-parts, runs-parts}
 
 -- ---- stores
@@ -70,7 +70,7 @@ marked-as {down} {old = old} {new} {at} {at′} e m = subst (λ (rs : List ℕ).
 -- ---- room
 
 -- for the first runs
-pub room-front : {down : Bool} {s : List ℕ} {at : ℕ} (rs ss : List ℕ) → Room down s at (rs ++ ss) → Room down s at rs
+pub room-front : {down : Bool} {s : List ℕ} {at : ℕ} (rs ss : List ℕ) → PenRoom down s at (rs ++ ss) → PenRoom down s at rs
 room-front {down} {s} {at} rs ss r = record {
   small = omega (arith, r .small, both rs ss);
   inside = λ t. omega (arith, r .inside t, both rs ss);
@@ -78,7 +78,7 @@ room-front {down} {s} {at} rs ss r = record {
 }
 
 -- for those after them
-pub room-next : {down : Bool} {rs old new : List ℕ} {at at′ : ℕ} (ss : List ℕ) → Room down old at (rs ++ ss) → Marked down rs old new at at′ → Room down new at′ ss
+pub room-next : {down : Bool} {rs old new : List ℕ} {at at′ : ℕ} (ss : List ℕ) → PenRoom down old at (rs ++ ss) → Marked down rs old new at at′ → PenRoom down new at′ ss
 room-next {down} {rs} {old} {new} {at} {at′} ss r p = record {
   small = omega (arith, r .small, both rs ss, p .pen);
   inside = λ t. omega (arith, r .inside t, both rs ss, p .pen, p .size);
@@ -102,7 +102,7 @@ module _ (down : Bool) (run : ℕ) (old : List ℕ) (at at′ : ℕ) (next : at�
   up-one f = record { size = refl; symbols = marks-up down (symbolsOf old) at (runsSymbols (run ∷ [])) f; pen = omega (arith, length-one run, next) }
 
   -- down, its digits are written: the comma after them stands already
-  pub down-one : (new : List ℕ) → down ≡ true → Room down old at (run ∷ []) → symbolsOf new ≡ sets (symbolsOf old) at (digitSymbols (numeral run))
+  pub down-one : (new : List ℕ) → down ≡ true → PenRoom down old at (run ∷ []) → symbolsOf new ≡ sets (symbolsOf old) at (digitSymbols (numeral run))
       → Marked down (run ∷ []) old new at at′
   unfolding runsSymbols
   down-one new t r e =
@@ -135,40 +135,40 @@ up-empty down n old at f = record {
 }
 
 -- where there is room for one, a comma stands
-pub empty-comma : {down : Bool} {s : List ℕ} {j : ℕ} → down ≡ true → Room down s j (0 ∷ []) → (j < 4 * length s) × (getD (symbolsOf s) j 0 ≡ 0)
+pub empty-comma : {down : Bool} {s : List ℕ} {j : ℕ} → down ≡ true → PenRoom down s j (0 ∷ []) → (j < 4 * length s) × (getD (symbolsOf s) j 0 ≡ 0)
 empty-comma {down} {s} {j} t r =
     let d = subst T (sym t) tt in
     (omega (arith, r .inside d, length-one 0), ap (λ (i : ℕ). getD (symbolsOf s) i 0) (sym (add-zero j)) ∙ r .commas d 0 (omega (arith, length-one 0)))
 
 -- some of n empty runs are written, up to j
-pub record Emptied (down : Bool) (n : ℕ) (old new : List ℕ) (at j : ℕ) : Type 0 where
+pub record EmptyMarked (down : Bool) (n : ℕ) (old new : List ℕ) (at j : ℕ) : Type 0 where
   pub done : ℕ
   pub left : ℕ
   pub whole : n ≡ done + left
   pub marked : Marked down (replicate done 0) old new at j
 
 -- none at first
-pub emptied-none : (down : Bool) (n : ℕ) (old : List ℕ) (at : ℕ) → Emptied down n old old at at
+pub emptied-none : (down : Bool) (n : ℕ) (old : List ℕ) (at : ℕ) → EmptyMarked down n old old at at
 emptied-none down n old at = record { done = 0; left = n; whole = omega arith; marked = marked-none down old at }
 
-module _ (down : Bool) (n : ℕ) (old new : List ℕ) (at j : ℕ) (p : Emptied down n old new at j) where
+module _ (down : Bool) (n : ℕ) (old new : List ℕ) (at j : ℕ) (p : EmptyMarked down n old new at j) where
   here : j ≡ at + 2 * p .done
   here = p .marked .pen ∙ ap (λ (k : ℕ). at + k) (length-empty (p .done))
 
   -- the next has its commas
-  pub emptied-room : j < at + 2 * n → Room down old at (replicate n 0) → Room down new j (0 ∷ [])
+  pub emptied-room : j < at + 2 * n → PenRoom down old at (replicate n 0) → PenRoom down new j (0 ∷ [])
   emptied-room l r = go (p .left) (p .whole)
     where
-      go : (left : ℕ) → n ≡ p .done + left → Room down new j (0 ∷ [])
+      go : (left : ℕ) → n ≡ p .done + left → PenRoom down new j (0 ∷ [])
       go zero e = absurd (lt-irrefl j (omega (arith, here)))
       go (suc m) e =
           let parts : replicate {A = ℕ} n 0 ≡ replicate (p .done) 0 ++ replicate (suc m) 0 =
           ap (λ (k : ℕ). replicate {A = ℕ} k 0) e ∙ sym (replicate-append-replicate {A = ℕ} (p .done) (suc m) 0) in
-          room-front (0 ∷ []) (replicate m 0) (room-next (replicate (suc m) 0) (subst (Room down old at) parts r) (p .marked))
+          room-front (0 ∷ []) (replicate m 0) (room-next (replicate (suc m) 0) (subst (PenRoom down old at) parts r) (p .marked))
 
   -- and is written by its digit
-  pub emptied-more : (next : List ℕ) → down ≡ true → j < at + 2 * n → Room down old at (replicate n 0) → symbolsOf next ≡ set (symbolsOf new) j 1
-      → Emptied down n old next at (j + 2)
+  pub emptied-more : (next : List ℕ) → down ≡ true → j < at + 2 * n → PenRoom down old at (replicate n 0) → symbolsOf next ≡ set (symbolsOf new) j 1
+      → EmptyMarked down n old next at (j + 2)
   emptied-more next t l r e =
       let d : symbolsOf next ≡ sets (symbolsOf new) j (digitSymbols (numeral 0)) =
       e ∙ ap (λ (ds : List ℕ). sets (symbolsOf new) j (digitSymbols ds)) (sym (numeral-small 0 (omega arith))) in
@@ -189,30 +189,30 @@ module _ (down : Bool) (n : ℕ) (old new : List ℕ) (at j : ℕ) (p : Emptied 
 
 -- ---- walks
 
-pub walked-none : (down : Bool) (old : List ℕ) (at k : ℕ) → Walked down [] old old at k at k
+pub walked-none : (down : Bool) (old : List ℕ) (at k : ℕ) → PenWalked down [] old old at k at k
 unfolding runsOf countAfter
 walked-none down old at k = record { runs = marked-none down old at; count = refl }
 
 -- up, a walk is two numbers
 pub up-walked : (down : Bool) (l : List Kind) (old : List ℕ) (at k at′ k′ : ℕ) → down ≡ false
-    → (at′ ≡ at + length (runsSymbols (runsOf k l))) × (k′ ≡ countAfter k l) → Walked down l old old at k at′ k′
+    → (at′ ≡ at + length (runsSymbols (runsOf k l))) × (k′ ≡ countAfter k l) → PenWalked down l old old at k at′ k′
 up-walked down l old at k at′ k′ f p = record {
   runs = record { size = refl; symbols = marks-up down (symbolsOf old) at (runsSymbols (runsOf k l)) f; pen = p .0 };
   count = p .1;
 }
 
-pub walked-append : {down : Bool} {l m : List Kind} {old mid new : List ℕ} {at a at′ k c k′ : ℕ} → Walked down l old mid at k a c → Walked down m mid new a c at′ k′
-    → Walked down (l ++ m) old new at k at′ k′
+pub walked-append : {down : Bool} {l m : List Kind} {old mid new : List ℕ} {at a at′ k c k′ : ℕ} → PenWalked down l old mid at k a c → PenWalked down m mid new a c at′ k′
+    → PenWalked down (l ++ m) old new at k at′ k′
 walked-append {down} {l} {m} {old} {mid} {new} {at} {a} {at′} {k} {c} {k′} p q = record {
   runs = subst (λ (rs : List ℕ). Marked down rs old new at at′) (sym (runs-parts k l m))
       (marked-append (p .runs) (subst (λ (i : ℕ). Marked down (runsOf i m) mid new a at′) (p .count) (q .runs)));
   count = q .count ∙ ap (λ (i : ℕ). countAfter i m) (p .count) ∙ sym (count-parts k l m);
 }
 
-pub walk-front : {down : Bool} {s : List ℕ} {at : ℕ} (k : ℕ) (l m : List Kind) → Room down s at (runsOf k (l ++ m)) → Room down s at (runsOf k l)
-walk-front {down} {s} {at} k l m r = room-front (runsOf k l) (runsOf (countAfter k l) m) (subst (Room down s at) (runs-parts k l m) r)
+pub walk-front : {down : Bool} {s : List ℕ} {at : ℕ} (k : ℕ) (l m : List Kind) → PenRoom down s at (runsOf k (l ++ m)) → PenRoom down s at (runsOf k l)
+walk-front {down} {s} {at} k l m r = room-front (runsOf k l) (runsOf (countAfter k l) m) (subst (PenRoom down s at) (runs-parts k l m) r)
 
-pub walk-next : {down : Bool} {old new : List ℕ} {at k at′ k′ : ℕ} {l : List Kind} (m : List Kind) → Room down old at (runsOf k (l ++ m))
-    → Walked down l old new at k at′ k′ → Room down new at′ (runsOf k′ m)
+pub walk-next : {down : Bool} {old new : List ℕ} {at k at′ k′ : ℕ} {l : List Kind} (m : List Kind) → PenRoom down old at (runsOf k (l ++ m))
+    → PenWalked down l old new at k at′ k′ → PenRoom down new at′ (runsOf k′ m)
 walk-next {down} {old} {new} {at} {k} {at′} {k′} {l} m r p =
-    subst (λ (i : ℕ). Room down new at′ (runsOf i m)) (sym (p .count)) (room-next (runsOf (countAfter k l) m) (subst (Room down old at) (runs-parts k l m) r) (p .runs))
+    subst (λ (i : ℕ). PenRoom down new at′ (runsOf i m)) (sym (p .count)) (room-next (runsOf (countAfter k l) m) (subst (PenRoom down old at) (runs-parts k l m) r) (p .runs))

@@ -32,7 +32,7 @@ use Rattle.raster.proofs.PackLaws.{frame-bytes, frame-row, row-pixel}
 use Rattle.raster.proofs.PartLaws.{part-bytes}
 use Rattle.raster.proofs.RowLaws.{rowBit-at, rows-in}
 use Rattle.sections.specs.Kinds.{Kind, countAfter, kind, kindsFrom, runsOf}
-use Rattle.sections.specs.Pens.{Marked, Room, Walked}
+use Rattle.sections.specs.Pens.{Marked, PenRoom, PenWalked}
 use Rattle.sections.specs.Words.{Word, rowKinds, wordKinds}
 use Rattle.sections.proofs.KindLaws.{count-le, row-agree, row-parts}
 use Rattle.sections.proofs.PenLaws.{marked-none, walk-front, walk-next, walked-append, walked-none}
@@ -107,15 +107,15 @@ word-kinds s a b m ink mask p q =
 -- ---- walks over a table of pixels
 
 -- the same pixels by another name
-pub walked-as : {down : Bool} {l m : List Kind} {old new : List ℕ} {at k at′ k′ : ℕ} → l ≡ m → Walked down l old new at k at′ k′
-    → Walked down m old new at k at′ k′
-walked-as {down} {l} {m} {old} {new} {at} {k} {at′} {k′} e p = subst (λ (i : List Kind). Walked down i old new at k at′ k′) e p
+pub walked-as : {down : Bool} {l m : List Kind} {old new : List ℕ} {at k at′ k′ : ℕ} → l ≡ m → PenWalked down l old new at k at′ k′
+    → PenWalked down m old new at k at′ k′
+walked-as {down} {l} {m} {old} {new} {at} {k} {at′} {k′} e p = subst (λ (i : List Kind). PenWalked down i old new at k at′ k′) e p
 
-pub room-as : {down : Bool} {l m : List Kind} {s : List ℕ} {at : ℕ} (k : ℕ) → l ≡ m → Room down s at (runsOf k l) → Room down s at (runsOf k m)
-room-as {down} {l} {m} {s} {at} k e p = subst (λ (i : List Kind). Room down s at (runsOf k i)) e p
+pub room-as : {down : Bool} {l m : List Kind} {s : List ℕ} {at : ℕ} (k : ℕ) → l ≡ m → PenRoom down s at (runsOf k l) → PenRoom down s at (runsOf k m)
+room-as {down} {l} {m} {s} {at} k e p = subst (λ (i : List Kind). PenRoom down s at (runsOf k i)) e p
 
 -- no pixel yet
-pub table-none : (f : ℕ → Kind) (down : Bool) (old : List ℕ) (at k : ℕ) → Walked down (tabulate f 0 0) old old at k at k
+pub table-none : (f : ℕ → Kind) (down : Bool) (old : List ℕ) (at k : ℕ) → PenWalked down (tabulate f 0 0) old old at k at k
 unfolding tabulate
 table-none f down old at k = walked-none down old at k
 
@@ -127,7 +127,7 @@ table-parts f x m r =
 
 -- room for all n pixels is room for the m after x
 pub table-room : {down : Bool} {old new : List ℕ} {at k at′ k′ : ℕ} {l : List Kind} (f : ℕ → Kind) (x m n : ℕ) → x + m ≤ n → tabulate f x m ≡ l
-    → Room down old at (runsOf k (tabulate f 0 n)) → Walked down (tabulate f 0 x) old new at k at′ k′ → Room down new at′ (runsOf k′ l)
+    → PenRoom down old at (runsOf k (tabulate f 0 n)) → PenWalked down (tabulate f 0 x) old new at k at′ k′ → PenRoom down new at′ (runsOf k′ l)
 table-room {down} {old} {new} {at} {k} {at′} {k′} {l} f x m n h e r p =
     let z : n ≡ x + (m + (n - (x + m))) = omega arith in
     let b = tabulate f (x + m) (n - (x + m)) in
@@ -135,12 +135,12 @@ table-room {down} {old} {new} {at} {k} {at′} {k′} {l} f x m n h e r p =
 
 -- m pixels more
 pub table-more : {down : Bool} {l : List Kind} {old mid new : List ℕ} {at a at′ k c k′ : ℕ} (f : ℕ → Kind) (x m : ℕ) → tabulate f x m ≡ l
-    → Walked down (tabulate f 0 x) old mid at k a c → Walked down l mid new a c at′ k′ → Walked down (tabulate f 0 (x + m)) old new at k at′ k′
+    → PenWalked down (tabulate f 0 x) old mid at k a c → PenWalked down l mid new a c at′ k′ → PenWalked down (tabulate f 0 (x + m)) old new at k at′ k′
 table-more {down} {l} {old} {mid} {new} {at} {a} {at′} {k} {c} {k′} f x m e p q =
     walked-as (sym (row-parts f 0 x m ∙ ap (λ (i : ℕ). tabulate f 0 x ++ tabulate f i m) (zero-add x))) (walked-append p (walked-as (sym e) q))
 
 -- each pixel is counted at most once
-pub table-count : {down : Bool} {old new : List ℕ} {at k at′ k′ : ℕ} (f : ℕ → Kind) (x : ℕ) → Walked down (tabulate f 0 x) old new at k at′ k′ → k′ ≤ k + x
+pub table-count : {down : Bool} {old new : List ℕ} {at k at′ k′ : ℕ} (f : ℕ → Kind) (x : ℕ) → PenWalked down (tabulate f 0 x) old new at k at′ k′ → k′ ≤ k + x
 table-count {down} {old} {new} {at} {k} {at′} {k′} f x p = omega (arith, p .count, count-le k (tabulate f 0 x), length-row f 0 x)
 
 -- ---- rows
@@ -163,7 +163,7 @@ abbrev pub planeKinds : ℕ → ℕ → ℕ → List ℕ → ℕ → List Kind
 planeKinds W H q s m = kindsFrom W (imageSet W H s) (imageSet W H (drop q s)) 0 m
 
 -- no row yet
-pub rows-none : (W H q : ℕ) (s : List ℕ) (down : Bool) (old : List ℕ) (at k : ℕ) → Walked down (planeKinds W H q s (0 * W)) old old at k at k
+pub rows-none : (W H q : ℕ) (s : List ℕ) (down : Bool) (old : List ℕ) (at k : ℕ) → PenWalked down (planeKinds W H q s (0 * W)) old old at k at k
 unfolding kindsFrom
 rows-none W H q s down old at k = walked-as (ap (tabulate (planeKind W H q s) 0) (sym (zero-mul W))) (table-none (planeKind W H q s) down old at k)
 
@@ -174,28 +174,28 @@ module _ (W H q y n m : ℕ) (s : List ℕ) (size : m ≡ n * W) (inside : y + n
 
   -- room for them
   pub rows-room : {down : Bool} {old new : List ℕ} {at k at′ k′ : ℕ} {l : List Kind} → tabulate (planeKind W H q s) (y * W) m ≡ l
-      → Room down old at (runsOf k (planeKinds W H q s (W * H))) → Walked down (planeKinds W H q s (y * W)) old new at k at′ k′
-      → Room down new at′ (runsOf k′ l)
+      → PenRoom down old at (runsOf k (planeKinds W H q s (W * H))) → PenWalked down (planeKinds W H q s (y * W)) old new at k at′ k′
+      → PenRoom down new at′ (runsOf k′ l)
   unfolding kindsFrom
   rows-room {down} {old} {new} {at} {k} {at′} {k′} {l} e r p = table-room (planeKind W H q s) (y * W) m (W * H) within e r p
 
   -- and walked
   pub rows-more : {down : Bool} {l : List Kind} {old mid new : List ℕ} {at a at′ k c k′ : ℕ} → tabulate (planeKind W H q s) (y * W) m ≡ l
-      → Walked down (planeKinds W H q s (y * W)) old mid at k a c → Walked down l mid new a c at′ k′
-      → Walked down (planeKinds W H q s ((y + n) * W)) old new at k at′ k′
+      → PenWalked down (planeKinds W H q s (y * W)) old mid at k a c → PenWalked down l mid new a c at′ k′
+      → PenWalked down (planeKinds W H q s ((y + n) * W)) old new at k at′ k′
   unfolding kindsFrom
   rows-more {down} {l} {old} {mid} {new} {at} {a} {at′} {k} {c} {k′} e p w =
       let z : y * W + m ≡ (y + n) * W = omega (arith, add-mul y n W) in
       walked-as (ap (tabulate (planeKind W H q s) 0) z) (table-more (planeKind W H q s) (y * W) m e p w)
 
   -- a count before them, and their pixels, stay within the plane's
-  pub rows-count : {down : Bool} {old new : List ℕ} {at k at′ k′ : ℕ} → Walked down (planeKinds W H q s (y * W)) old new at k at′ k′ → k′ + m ≤ k + W * H
+  pub rows-count : {down : Bool} {old new : List ℕ} {at k at′ k′ : ℕ} → PenWalked down (planeKinds W H q s (y * W)) old new at k at′ k′ → k′ + m ≤ k + W * H
   unfolding kindsFrom
   rows-count {down} {old} {new} {at} {k} {at′} {k′} p = omega (arith, table-count (planeKind W H q s) (y * W) p, within)
 
 -- all rows
 pub rows-all : {down : Bool} {old new : List ℕ} {at k at′ k′ : ℕ} (W H q y : ℕ) (s : List ℕ) → y ≡ H
-    → Walked down (planeKinds W H q s (y * W)) old new at k at′ k′ → Walked down (planeKinds W H q s (W * H)) old new at k at′ k′
+    → PenWalked down (planeKinds W H q s (y * W)) old new at k at′ k′ → PenWalked down (planeKinds W H q s (W * H)) old new at k at′ k′
 rows-all {down} {old} {new} {at} {k} {at′} {k′} W H q y s e p = walked-as (ap (planeKinds W H q s) (ap (λ (i : ℕ). i * W) e ∙ mul-comm H W)) p
 
 -- ---- rows of bytes of a plane
@@ -261,7 +261,7 @@ count-same p g k i (suc n) =
 
 -- a walk over such planes
 pub same-walked : (W H q m : ℕ) (s : List ℕ) (down : Bool) (old : List ℕ) (at k : ℕ) → imageSet W H (drop q s) ≡ imageSet W H s
-    → m ≡ area W H (imageSet W H (drop q s)) → Walked down (planeKinds W H q s (W * H)) old old at k at (k + (W * H - m))
+    → m ≡ area W H (imageSet W H (drop q s)) → PenWalked down (planeKinds W H q s (W * H)) old old at k at (k + (W * H - m))
 unfolding kindsFrom area places
 same-walked W H q m s down old at k e a =
     let M = imageSet W H (drop q s) in

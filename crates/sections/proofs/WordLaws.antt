@@ -16,7 +16,7 @@ use lib.Pow.{field, high, low, mod-mod-pow, mod-pow-add, ones-lt, ones-split, on
 use Rattle.morphology.specs.Element.{bit}
 use Rattle.morphology.proofs.BitLaws.{bit-or, bit-xor}
 use Rattle.sections.specs.Kinds.{Kind, countAfter, free, kind, masked, point, runsOf}
-use Rattle.sections.specs.Pens.{Marked, Room, Walked}
+use Rattle.sections.specs.Pens.{Marked, PenRoom, PenWalked}
 use Rattle.sections.specs.Words.{wordKinds}
 use Rattle.sections.proofs.KindLaws.{count-parts, runs-parts}
 use Rattle.sections.proofs.PenLaws.{marked-none, walk-front, walk-next, walked-append, walked-none}
@@ -408,7 +408,7 @@ module _ (h left rest n : ℕ) (fits : h < 64) (apart : Apart h left rest) (some
 pub record Walking (down : Bool) (whole : List Kind) (old new : List ℕ) (at run j k height left rest : ℕ) : Type 0 where
   pub kinds : List Kind
   pub split : whole ≡ kinds ++ pixels height left rest
-  pub walked : Walked down kinds old new at run j k
+  pub walked : PenWalked down kinds old new at run j k
   pub short : height ≤ 64
   pub small : left < 2 ^ height
   pub fits : rest < 2 ^ height
@@ -421,12 +421,12 @@ module _ {down : Bool} {whole : List Kind} {old new : List ℕ} {at run j k heig
   walking-left = lt-of-lt-of-le (w .small) (pow-mono (w .short))
 
   -- a step has room
-  pub walking-room : {rs : List ℕ} {height′ left′ rest′ : ℕ} → Room down old at (runsOf run whole) → Step k height left rest rs height′ left′ rest′
-      → Room down new j rs
+  pub walking-room : {rs : List ℕ} {height′ left′ rest′ : ℕ} → PenRoom down old at (runsOf run whole) → Step k height left rest rs height′ left′ rest′
+      → PenRoom down new j rs
   walking-room {rs} {height′} {left′} {rest′} r s =
-      let here = walk-next (pixels height left rest) (subst (λ (l : List Kind). Room down old at (runsOf run l)) (w .split) r) (w .walked) in
-      subst (Room down new j) (s .runs)
-      (walk-front k (s .passed) (pixels height′ left′ rest′) (subst (λ (l : List Kind). Room down new j (runsOf k l)) (s .parts) here))
+      let here = walk-next (pixels height left rest) (subst (λ (l : List Kind). PenRoom down old at (runsOf run l)) (w .split) r) (w .walked) in
+      subst (PenRoom down new j) (s .runs)
+      (walk-front k (s .passed) (pixels height′ left′ rest′) (subst (λ (l : List Kind). PenRoom down new j (runsOf k l)) (s .parts) here))
 
   -- and once its runs are there, it is taken
   pub walking-step : {rs : List ℕ} {height′ left′ rest′ : ℕ} {next : List ℕ} {j′ : ℕ} → Step k height left rest rs height′ left′ rest′
@@ -443,12 +443,12 @@ module _ {down : Bool} {whole : List Kind} {old new : List ℕ} {at run j k heig
   }
 
   -- until no point is left
-  pub walking-done : left ≡ 0 → Walked down whole old new at run j (k + ones rest)
+  pub walking-done : left ≡ 0 → PenWalked down whole old new at run j (k + ones rest)
   walking-done z =
       let rs : runsOf k (pixels height left rest) ≡ [] = ap (λ (x : ℕ). runsOf k (pixels height x rest)) z ∙ gap-runs height k rest in
       let c : countAfter k (pixels height left rest) ≡ k + ones rest =
       ap (λ (x : ℕ). countAfter k (pixels height x rest)) z ∙ gap-count height k rest ∙ ap (λ (x : ℕ). k + ones x) (mod-eq-of-lt (w .fits)) in
-      subst (λ (l : List Kind). Walked down l old new at run j (k + ones rest)) (sym (w .split))
+      subst (λ (l : List Kind). PenWalked down l old new at run j (k + ones rest)) (sym (w .split))
       (walked-append (w .walked) (record { runs = subst (λ (l : List ℕ). Marked down l new new j j) (sym rs) (marked-none down new j); count = sym c }))
 
 -- none is walked at first
@@ -466,7 +466,7 @@ walking-none down m all ink mask old at run l e i k = record {
 }
 
 -- a word that is its own mask has no point
-pub same-word : (down : Bool) (v : ℕ) (old : List ℕ) (at run : ℕ) → v < 2 ^ 64 → Walked down (wordKinds 64 v v) old old at run at (run + ones (bitXor (2 ^ 64 - 1) v))
+pub same-word : (down : Bool) (v : ℕ) (old : List ℕ) (at run : ℕ) → v < 2 ^ 64 → PenWalked down (wordKinds 64 v v) old old at run at (run + ones (bitXor (2 ^ 64 - 1) v))
 same-word down v old at run h =
-    subst (λ (x : ℕ). Walked down (wordKinds 64 v v) old old at run at (run + ones (bitXor (2 ^ 64 - 1) x))) (or-self v)
+    subst (λ (x : ℕ). PenWalked down (wordKinds 64 v v) old old at run at (run + ones (bitXor (2 ^ 64 - 1) x))) (or-self v)
     (walking-done (walking-none down 64 (2 ^ 64 - 1) v v old at run (le-refl 64) refl h h) (ap (λ (x : ℕ). bitXor x v) (or-self v) ∙ xor-self v))

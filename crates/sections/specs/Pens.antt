@@ -16,7 +16,7 @@ marks true s at t = sets s at t
 marks false s at t = s
 
 -- runs rs can be written from `at` on: there are as many commas in the stream; no place is too large for the code's numbers
-pub record Room (down : Bool) (stream : List ℕ) (at : ℕ) (rs : List ℕ) : Type 0 where
+pub record PenRoom (down : Bool) (stream : List ℕ) (at : ℕ) (rs : List ℕ) : Type 0 where
   pub small : at + length (runsSymbols rs) < 2 ^ 40
   pub inside : T down → at + length (runsSymbols rs) ≤ 4 * length stream
   pub commas : T down → (k : ℕ) → k < length (runsSymbols rs) → getD (symbolsOf stream) (at + k) 0 ≡ 0
@@ -28,6 +28,6 @@ pub record Marked (down : Bool) (rs : List ℕ) (old new : List ℕ) (at at′ :
   pub pen : at′ ≡ at + length (runsSymbols rs)
 
 -- a walk over the pixels l, where k were counted before them: their runs, and those counted after the last
-pub record Walked (down : Bool) (l : List Kind) (old new : List ℕ) (at k at′ k′ : ℕ) : Type 0 where
+pub record PenWalked (down : Bool) (l : List Kind) (old new : List ℕ) (at k at′ k′ : ℕ) : Type 0 where
   pub runs : Marked down (runsOf k l) old new at at′
   pub count : k′ ≡ countAfter k l

@@ -10,7 +10,7 @@ ghost use Rattle.morphology.specs.Image.{imageSet, isClean, onesOf};
 ghost use Rattle.raster.specs.Frames.{Frame};
 ghost use Rattle.raster.specs.Limits.{maxFrame};
 ghost use Rattle.sections.specs.Kinds.{runsOf, kindsFrom};
-ghost use Rattle.sections.specs.Pens.{Marked, Room, Walked};
+ghost use Rattle.sections.specs.Pens.{Marked, PenRoom, PenWalked};
 ghost use Rattle.sections.specs.Words.{Word, rowKinds};
 
 // The n bytes from i on as one number.
@@ -50,8 +50,8 @@ fn walk_few(
     out: &mut [u8],
 ) -> Pen
     requires { ⌜ (0 < m) × (m ≤ 64) × (a + (m + 7) / 8 ≤ length (now s)) × (b + (m + 7) / 8 ≤ length (now s)) × (run < 2 ^ 24)
-        × Room down (now out) at (runsOf run (rowKinds (now s) a b 0 m)) ⌝ }
-    ensures { λ p. ⌜ Walked down (rowKinds (now (s .entry)) a b 0 m) (now (out .entry)) (now (out .exit)) at run (p .at) (p .run) ⌝ }
+        × PenRoom down (now out) at (runsOf run (rowKinds (now s) a b 0 m)) ⌝ }
+    ensures { λ p. ⌜ PenWalked down (rowKinds (now (s .entry)) a b 0 m) (now (out .entry)) (now (out .exit)) at run (p .at) (p .run) ⌝ }
 {
     let n = (m + 7) / 8;
     let padding = (8 * n - m) as u32;
@@ -62,8 +62,8 @@ fn walk_few(
 
 // The same for 64 pixels, a whole word; where the rows are the same there it has no point, and where it is dense it is measured at once.
 fn walk_whole(down: bool, s: &[u8], a: usize, b: usize, at: usize, run: u32, out: &mut [u8]) -> Pen
-    requires { ⌜ (a + 8 ≤ length (now s)) × (b + 8 ≤ length (now s)) × (run < 2 ^ 24) × Room down (now out) at (runsOf run (rowKinds (now s) a b 0 64)) ⌝ }
-    ensures { λ p. ⌜ Walked down (rowKinds (now (s .entry)) a b 0 64) (now (out .entry)) (now (out .exit)) at run (p .at) (p .run) ⌝ }
+    requires { ⌜ (a + 8 ≤ length (now s)) × (b + 8 ≤ length (now s)) × (run < 2 ^ 24) × PenRoom down (now out) at (runsOf run (rowKinds (now s) a b 0 64)) ⌝ }
+    ensures { λ p. ⌜ PenWalked down (rowKinds (now (s .entry)) a b 0 64) (now (out .entry)) (now (out .exit)) at run (p .at) (p .run) ⌝ }
 {
     let ink = load(s, a, 8);
     let mask = load(s, b, 8);
@@ -91,8 +91,8 @@ fn walk_row(
     out: &mut [u8],
 ) -> Pen
     requires { ⌜ (a + (w + 7) / 8 ≤ length (now s)) × (b + (w + 7) / 8 ≤ length (now s)) × (run + w < 2 ^ 24) × (w ≤ maxFrame)
-        × Room down (now out) at (runsOf run (rowKinds (now s) a b 0 w)) ⌝ }
-    ensures { λ p. ⌜ Walked down (rowKinds (now (s .entry)) a b 0 w) (now (out .entry)) (now (out .exit)) at run (p .at) (p .run) ⌝ }
+        × PenRoom down (now out) at (runsOf run (rowKinds (now s) a b 0 w)) ⌝ }
+    ensures { λ p. ⌜ PenWalked down (rowKinds (now (s .entry)) a b 0 w) (now (out .entry)) (now (out .exit)) at run (p .at) (p .run) ⌝ }
 {
     let mut j = at;
     let mut k = run;
@@ -133,8 +133,8 @@ fn walk_block(
     out: &mut [u8],
 ) -> Pen
     requires { ⌜ Frame w n r × (n * r ≤ q) × (q + n * r ≤ length (now s)) × T (isClean w n (drop q (now s))) × (run + w * n < 2 ^ 24)
-        × Room down (now out) at (runsOf run (kindsFrom w (imageSet w n (now s)) (imageSet w n (drop q (now s))) 0 (w * n))) ⌝ }
-    ensures { λ p. ⌜ Walked down (kindsFrom w (imageSet w n (now (s .entry))) (imageSet w n (drop q (now (s .entry)))) 0 (w * n))
+        × PenRoom down (now out) at (runsOf run (kindsFrom w (imageSet w n (now s)) (imageSet w n (drop q (now s))) 0 (w * n))) ⌝ }
+    ensures { λ p. ⌜ PenWalked down (kindsFrom w (imageSet w n (now (s .entry))) (imageSet w n (drop q (now (s .entry)))) 0 (w * n))
         (now (out .entry)) (now (out .exit)) at run (p .at) (p .run) ⌝ }
 {
     if raster::same_rows(s, 0, q, n * r) {
@@ -182,8 +182,8 @@ fn walk_blocks(
     out: &mut [u8],
 ) -> Pen
     requires { ⌜ Frame w h r × (h * r ≤ q) × (q + h * r ≤ length (now s)) × T (isClean w h (drop q (now s))) × (run + w * h < 2 ^ 24)
-        × Room down (now out) at (runsOf run (kindsFrom w (imageSet w h (now s)) (imageSet w h (drop q (now s))) 0 (w * h))) ⌝ }
-    ensures { λ p. ⌜ Walked down (kindsFrom w (imageSet w h (now (s .entry))) (imageSet w h (drop q (now (s .entry)))) 0 (w * h))
+        × PenRoom down (now out) at (runsOf run (kindsFrom w (imageSet w h (now s)) (imageSet w h (drop q (now s))) 0 (w * h))) ⌝ }
+    ensures { λ p. ⌜ PenWalked down (kindsFrom w (imageSet w h (now (s .entry))) (imageSet w h (drop q (now (s .entry)))) 0 (w * h))
         (now (out .entry)) (now (out .exit)) at run (p .at) (p .run) ⌝ }
 {
     let mut j = at;
@@ -213,7 +213,7 @@ pub fn walk_plane(
     out: &mut [u8],
 ) -> usize
     requires { ⌜ Frame w h r × (h * r ≤ q) × (q + h * r ≤ length (now s)) × T (isClean w h (drop q (now s))) × (run + w * h < 2 ^ 24)
-        × Room down (now out) at (runsOf run (kindsFrom w (imageSet w h (now s)) (imageSet w h (drop q (now s))) 0 (w * h))) ⌝ }
+        × PenRoom down (now out) at (runsOf run (kindsFrom w (imageSet w h (now s)) (imageSet w h (drop q (now s))) 0 (w * h))) ⌝ }
     ensures { λ e. ⌜ Marked down (runsOf run (kindsFrom w (imageSet w h (now (s .entry))) (imageSet w h (drop q (now (s .entry)))) 0 (w * h)))
         (now (out .entry)) (now (out .exit)) at e ⌝ }
 {

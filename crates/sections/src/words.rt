@@ -8,7 +8,7 @@ ghost use lib.Dec.{T};
 ghost use lib.ListN.{length, replicate};
 ghost use Rattle.coding.specs.Writing.{runsSymbols};
 ghost use Rattle.sections.specs.Kinds.{countAfter, runsOf};
-ghost use Rattle.sections.specs.Pens.{Marked, Room, Walked};
+ghost use Rattle.sections.specs.Pens.{Marked, PenRoom, PenWalked};
 ghost use Rattle.sections.specs.Words.{Dense, wordKinds};
 
 // Where a pen stands in a stream of symbols, and the pixels counted since the last point.
@@ -19,7 +19,7 @@ pub struct Pen {
 
 // One run and its comma. Answers where the next stands.
 fn end_run(down: bool, at: usize, run: u32, out: &mut [u8]) -> usize
-    requires { ⌜ Room down (now out) at (run ∷ []) ⌝ }
+    requires { ⌜ PenRoom down (now out) at (run ∷ []) ⌝ }
     ensures { λ e. ⌜ Marked down (run ∷ []) (now (out .entry)) (now (out .exit)) at e ⌝ }
 {
     if down {
@@ -30,7 +30,7 @@ fn end_run(down: bool, at: usize, run: u32, out: &mut [u8]) -> usize
 
 // n runs of no pixel, each with its comma.
 fn empty_runs(down: bool, at: usize, n: u32, out: &mut [u8]) -> usize
-    requires { ⌜ Room down (now out) at (replicate n 0) ⌝ }
+    requires { ⌜ PenRoom down (now out) at (replicate n 0) ⌝ }
     ensures { λ e. ⌜ Marked down (replicate n 0) (now (out .entry)) (now (out .exit)) at e ⌝ }
 {
     let end = at + 2 * (n as usize);
@@ -80,8 +80,8 @@ pub fn walk_word(
     run: u32,
     out: &mut [u8],
 ) -> Pen
-    requires { ⌜ (0 < m) × (m ≤ 64) × (ink < 2 ^ m) × (mask < 2 ^ m) × (run < 2 ^ 24) × Room down (now out) at (runsOf run (wordKinds m ink mask)) ⌝ }
-    ensures { λ p. ⌜ Walked down (wordKinds m ink mask) (now (out .entry)) (now (out .exit)) at run (p .at) (p .run) ⌝ }
+    requires { ⌜ (0 < m) × (m ≤ 64) × (ink < 2 ^ m) × (mask < 2 ^ m) × (run < 2 ^ 24) × PenRoom down (now out) at (runsOf run (wordKinds m ink mask)) ⌝ }
+    ensures { λ p. ⌜ PenWalked down (wordKinds m ink mask) (now (out .entry)) (now (out .exit)) at run (p .at) (p .run) ⌝ }
 {
     let either = ink | mask;
     let mut left = either ^ mask;

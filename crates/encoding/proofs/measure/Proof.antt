@@ -1,5 +1,5 @@
 -- `encoding::measure` meets its contract.
--- The invariant: after n sizes work is as `Passed` says, lengths and total are as `Lengths` says, and the last of these sizes had ink.
+-- The invariant: after n sizes work is as `SizesPassed` says, lengths and total are as `Lengths` says, and the last of these sizes had ink.
 -- The measure is the larger side less n: a size with ink is below it.
 use mathlib.Core.Bool.{Bool}
 use mathlib.Core.Path.{_∙_, _≡_, refl, sym}
@@ -18,7 +18,7 @@ use Rattle.morphology.proofs.FrameLaws.{OnFrame}
 use Rattle.morphology.proofs.ImageLaws.{image-on}
 use Rattle.iteration.proofs.StepLaws.{first-start, sheet-bytes}
 use Rattle.raster.specs.Limits.{maxFrame}
-use Rattle.encoding.specs.Sizes.{Lengths, Passed}
+use Rattle.encoding.specs.Sizes.{Lengths, SizesPassed}
 use Rattle.encoding.proofs.MeasureLaws.{before-more, frame-small, ink-lt, lengths-more, lengths-start, open-le, passed-count, passed-gone, passed-point, room-up, total-small}
 use Rattle.encoding.proofs.SizeLaws.{passed-clean, passed-more, passed-start}
 use Rattle.encoding.proofs.measure.Statement.{statement}
@@ -26,7 +26,7 @@ use Rattle.encoding.proofs.measure.Tie as tie
 
 abbrev Inv-loop : tie.InvT-loop
 Inv-loop w h r p element lengths₀ work₀ none₀ n₀ total₀ lengths work none n total =
-    Passed w h p (offsets element) (imageSet w h work₀) n work₀ work
+    SizesPassed w h p (offsets element) (imageSet w h work₀) n work₀ work
     × Lengths w h (offsets element) (imageSet w h work₀) n lengths total × (length lengths ≡ length lengths₀)
     × ((k : ℕ) → n ≡ suc k → (z : Point) × T (erode (times (offsets element) k) (imageSet w h work₀) z)) × (length none ≡ 1)
 

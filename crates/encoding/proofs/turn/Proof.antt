@@ -7,7 +7,7 @@ use denote.Ref.{now}
 use Prim.Native.Nat.{ℕ}
 use Rattle.morphology.proofs.ElementLaws.{element-bit}
 use Rattle.iteration.proofs.OpenLaws.{opened-clean, opened-down}
-use Rattle.sections.specs.Pens.{Room}
+use Rattle.sections.specs.Pens.{PenRoom}
 use Rattle.sections.proofs.PenLaws.{marked-as}
 use Rattle.encoding.proofs.SizeLaws.{opened-runs}
 use Rattle.encoding.proofs.turn.Statement.{statement}
@@ -36,7 +36,7 @@ walk-plane-requires c κs =
       search needs,
       opened-clean (a .w) (a .h) (a .r) (a .p) (a .element) (now (a .work)) (t .frame) (t .apart) (t .planes) _ (o .open-plane .ensures),
       s .pre .1,
-      subst (λ (rs : List ℕ). Room (a .down) (now (a .out)) (a .at) rs)
+      subst (λ (rs : List ℕ). PenRoom (a .down) (now (a .out)) (a .at) rs)
           (sym (opened-runs (a .w) (a .h) (a .r) (a .p) (a .element) (now (a .work)) (t .frame) (t .apart) (t .planes) _ (o .open-plane .ensures) (a .before)))
           (s .pre .2),
     )

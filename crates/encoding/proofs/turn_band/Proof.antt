@@ -8,7 +8,7 @@ use borrow.Author.Needs.{needs}
 use denote.Ref.{now}
 use lib.ListN.{getD, length}
 use Rattle.iteration.proofs.BandLaws.{band-clean, band-eroded, band-frame, band-long, band-span}
-use Rattle.sections.specs.Pens.{Room}
+use Rattle.sections.specs.Pens.{PenRoom}
 use Rattle.sections.proofs.PenLaws.{marked-as}
 use Rattle.encoding.proofs.SizeLaws.{band-runs}
 use Rattle.encoding.proofs.turn_band.Statement.{statement}
@@ -80,7 +80,7 @@ turn-requires c κs =
         clean = band-clean (a .w) (a .h) (a .r) (a .from) (a .to) (a .element) (now (a .work)) (b .frame) three (b .element) bytes (b .clean) (s .pre .1) _ refl;
       },
       omega arith,
-      subst (λ (rs : List ℕ). Room (a .down) (now (a .out)) (a .at) rs)
+      subst (λ (rs : List ℕ). PenRoom (a .down) (now (a .out)) (a .at) rs)
           (band-runs (a .w) (a .h) (a .r) (a .from) (a .to) (a .element) (now (a .work)) (b .frame) three (b .element) bytes (b .clean) (s .pre .1) _ refl) (s .pre .2),
     )
 

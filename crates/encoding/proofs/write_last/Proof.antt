@@ -6,7 +6,7 @@ use native.Mathlib.Omega.{arith}
 use borrow.Author.Needs.{needs}
 use denote.Ref.{now}
 use Rattle.iteration.proofs.StepLaws.{sheet-small}
-use Rattle.sections.specs.Pens.{Room}
+use Rattle.sections.specs.Pens.{PenRoom}
 use Rattle.sections.proofs.PenLaws.{marked-as}
 use Rattle.encoding.proofs.LastLaws.{third-clean, third-rest, third-runs, third-size}
 use Rattle.encoding.proofs.MeasureLaws.{frame-small}
@@ -50,7 +50,7 @@ walk-plane-requires c κs =
       omega (arith, k .plane, s .pre .1, third-size k (now (a .work)) (s .pre .1) n (omega arith) _ (f .fill .ensures)),
       third-clean k (now (a .work)) (s .pre .1) n (omega arith) _ (f .fill .ensures),
       omega (arith, frame-small (k .frame)),
-      subst (Room true (now (a .out)) 0) (sym (third-runs k (now (a .work)) (s .pre .1) n (omega arith) _ (f .fill .ensures))) (s .pre .2),
+      subst (PenRoom true (now (a .out)) 0) (sym (third-runs k (now (a .work)) (s .pre .1) n (omega arith) _ (f .fill .ensures))) (s .pre .2),
     )
 
 same-length : tie.Need-same-length

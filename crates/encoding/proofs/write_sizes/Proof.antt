@@ -1,5 +1,5 @@
 -- `encoding::write_sizes` meets its contract.
--- The invariant: after n sizes work holds the plane of the next, as `Passed` says, and out their sections from `end` on, as `Written` says. The measure is the
+-- The invariant: after n sizes work holds the plane of the next, as `SizesPassed` says, and out their sections from `end` on, as `Streamed` says. The measure is the
 -- sizes less n. A section of two commas stands already; of any other the runs are written, and the comma that ends it stands. The largest size is left to the
 -- end: no ink comes after it, so it is written without a mask, and its section is what is before `end`.
 use mathlib.Core.Bool.{true}
@@ -18,12 +18,12 @@ use Rattle.morphology.specs.Element.{offsets}
 use Rattle.morphology.specs.Image.{imageSet, isClean}
 use Rattle.morphology.proofs.FrameLaws.{OnFrame}
 use Rattle.morphology.proofs.ImageLaws.{image-on}
-use Rattle.sections.specs.Pens.{Room}
-use Rattle.encoding.specs.Sizes.{Passed, inkRuns, openRuns, symbolsBelow}
+use Rattle.sections.specs.Pens.{PenRoom}
+use Rattle.encoding.specs.Sizes.{SizesPassed, inkRuns, openRuns, symbolsBelow}
 use Rattle.encoding.proofs.LastLaws.{passed-last}
 use Rattle.encoding.proofs.SizeLaws.{passed-clean, passed-more, passed-runs, passed-start}
 use Rattle.encoding.proofs.StreamLaws.{
-  Written,
+  Streamed,
   eroded-once,
   written-all,
   written-fits,
@@ -40,7 +40,7 @@ use Rattle.encoding.proofs.write_sizes.Tie as tie
 abbrev Inv-loop : tie.InvT-loop
 Inv-loop w h r p element sizes symbols lengths out₀ work₀ end₀ n₀ out work end n =
     let X = imageSet w h work₀ in
-    Passed w h p (offsets element) X n work₀ work × Written (erodedRuns w h (offsets element) X) n symbols end out × (n ≤ sizes)
+    SizesPassed w h p (offsets element) X n work₀ work × Streamed (erodedRuns w h (offsets element) X) n symbols end out × (n ≤ sizes)
 
 abbrev μ-loop : tie.MeasureT-loop
 μ-loop w h r p element sizes symbols lengths out₀ work₀ end₀ n₀ out work end n = sizes - n
@@ -156,7 +156,7 @@ take-size-requires c κs =
       omega (arith, s .pre .1, l .inv .0 .size),
       s .pre .3,
       clean at-loop,
-      subst (Room true (l .out) (place at-loop)) (sym (runs-are at-loop)) (written-room (l .inv .1) (place at-loop) (next in-loop) (s .pre .6)),
+      subst (PenRoom true (l .out) (place at-loop)) (sym (runs-are at-loop)) (written-room (l .inv .1) (place at-loop) (next in-loop) (s .pre .6)),
     )
 
 add-n : tie.Need-add-n Inv-loop μ-loop
@@ -176,8 +176,8 @@ loop-again c =
     let l = at-loop .loop in
     let at = place at-loop in
     let few : l .n + 1 ≤ a .sizes = omega (arith, in-loop .loop-test .taken) in
-    let passed : List ℕ → Type 0 = Passed (a .w) (a .h) (a .p) B (imageSet (a .w) (a .h) (now (a .work))) (l .n + 1) (now (a .work)) in
-    let stream : List ℕ → Type 0 = Written (sizeRuns at-loop) (l .n + 1) (a .symbols) at in
+    let passed : List ℕ → Type 0 = SizesPassed (a .w) (a .h) (a .p) B (imageSet (a .w) (a .h) (now (a .work))) (l .n + 1) (now (a .work)) in
+    let stream : List ℕ → Type 0 = Streamed (sizeRuns at-loop) (l .n + 1) (a .symbols) at in
     ⊎-elim
     (λ w.
     let d = eroded-once (a .w) (a .h) (a .p) B (l .work) _ (w .2 .ensures) in (
@@ -200,7 +200,7 @@ write-last-requires c κs =
     let l = at-loop .loop in (
       s .pre .0,
       omega (arith, s .pre .1, l .inv .0 .size),
-      subst (Room true (l .out) 0) (sym (last-runs last)) (written-room (l .inv .1) 0 (last-place last) (s .pre .6)),
+      subst (PenRoom true (l .out) 0) (sym (last-runs last)) (written-room (l .inv .1) 0 (last-place last) (s .pre .6)),
     )
 
 same-length : tie.Need-same-length Inv-loop μ-loop

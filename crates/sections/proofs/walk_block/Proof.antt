@@ -11,14 +11,14 @@ use Rattle.morphology.specs.Image.{imageSet, stride}
 use Rattle.morphology.specs.Labels.{area}
 use Rattle.morphology.proofs.PlaneLaws.{area-le}
 use Rattle.raster.proofs.RowLaws.{row-at, row-in}
-use Rattle.sections.specs.Pens.{Walked}
+use Rattle.sections.specs.Pens.{PenWalked}
 use Rattle.sections.proofs.PlaneLaws.{frame-few, mask-ones, planeKinds, row-kinds, rows-all, rows-count, rows-more, rows-none, rows-room, same-set, same-walked}
 use Rattle.sections.proofs.walk_block.Statement.{statement}
 use Rattle.sections.proofs.walk_block.Tie as tie
 
 abbrev Inv-loop : tie.InvT-loop
 Inv-loop down w n r q s at run out₀ j₀ k₀ y₀ out j k y =
-    (y ≤ n) × Walked down (planeKinds w n q s (y * w)) out₀ out at run j k
+    (y ≤ n) × PenWalked down (planeKinds w n q s (y * w)) out₀ out at run j k
 
 abbrev μ-loop : tie.MeasureT-loop
 μ-loop down w n r q s at run out₀ j₀ k₀ y₀ out j k y = n - y

@@ -5,14 +5,14 @@ use native.Mathlib.Nat.{mul-comm}
 use native.Mathlib.Omega.{arith}
 use denote.Ref.{now}
 use Rattle.raster.proofs.RowLaws.{rows-in}
-use Rattle.sections.specs.Pens.{Walked}
+use Rattle.sections.specs.Pens.{PenWalked}
 use Rattle.sections.proofs.PlaneLaws.{block-clean, block-fits, block-pixels, frame-few, length-from, planeKinds, rows-all, rows-count, rows-more, rows-none, rows-room}
 use Rattle.sections.proofs.walk_blocks.Statement.{statement}
 use Rattle.sections.proofs.walk_blocks.Tie as tie
 
 abbrev Inv-loop : tie.InvT-loop
 Inv-loop down w h r q s at run out₀ j₀ k₀ y₀ out j k y =
-    (y ≤ h) × Walked down (planeKinds w h q s (y * w)) out₀ out at run j k
+    (y ≤ h) × PenWalked down (planeKinds w h q s (y * w)) out₀ out at run j k
 
 abbrev μ-loop : tie.MeasureT-loop
 μ-loop down w h r q s at run out₀ j₀ k₀ y₀ out j k y = h - y

@@ -4,7 +4,7 @@ use mathlib.Core.Path.{_∙_, _≡_, ap}
 use Prim.Native.Nat.{_%_, _+_, _-_, _≤_}
 use native.Mathlib.Omega.{arith}
 use denote.Ref.{now}
-use Rattle.sections.specs.Pens.{Walked}
+use Rattle.sections.specs.Pens.{PenWalked}
 use Rattle.sections.specs.Words.{rowKinds}
 use Rattle.sections.proofs.PlaneLaws.{row-on, rowKind, table-count, table-more, table-none, table-room, walked-as}
 use Rattle.sections.proofs.walk_row.Statement.{statement}
@@ -12,7 +12,7 @@ use Rattle.sections.proofs.walk_row.Tie as tie
 
 abbrev Inv-loop : tie.InvT-loop
 Inv-loop down s a b w at run out₀ j₀ k₀ x₀ out j k x =
-    (x ≤ w) × (x % 8 ≡ 0) × Walked down (rowKinds s a b 0 x) out₀ out at run j k
+    (x ≤ w) × (x % 8 ≡ 0) × PenWalked down (rowKinds s a b 0 x) out₀ out at run j k
 
 abbrev μ-loop : tie.MeasureT-loop
 μ-loop down s a b w at run out₀ j₀ k₀ x₀ out j k x = w - x

@@ -5,12 +5,12 @@ use Prim.Native.Nat.{_-_}
 use native.Mathlib.Omega.{arith}
 use borrow.Author.Tests.{not-false, not-true}
 use denote.Ref.{now}
-use Rattle.sections.proofs.PenLaws.{Emptied, emptied-done, emptied-more, emptied-none, emptied-room, empty-comma, length-empty, up-empty}
+use Rattle.sections.proofs.PenLaws.{EmptyMarked, emptied-done, emptied-more, emptied-none, emptied-room, empty-comma, length-empty, up-empty}
 use Rattle.sections.proofs.words.empty_runs.Statement.{statement}
 use Rattle.sections.proofs.words.empty_runs.Tie as tie
 
 abbrev Inv-loop : tie.InvT-loop
-Inv-loop down at n out₀ end j₀ out j = Emptied down n out₀ out at j
+Inv-loop down at n out₀ end j₀ out j = EmptyMarked down n out₀ out at j
 
 abbrev μ-loop : tie.MeasureT-loop
 μ-loop down at n out₀ end j₀ out j = end - j

@@ -4,14 +4,14 @@ use native.Mathlib.Omega.{arith}
 use borrow.Author.Needs.{needs}
 use lib.Count.{leading-le, leadingZeros, ones, ones-le}
 use Rattle.coding.proofs.NumeralLaws.{length-le}
-use Rattle.sections.proofs.DenseLaws.{Measured, dense-after, dense-size}
+use Rattle.sections.proofs.DenseLaws.{DenseMeasured, dense-after, dense-size}
 use Rattle.sections.proofs.words.measure_dense.Statement.{statement}
 use Rattle.sections.proofs.words.measure_dense.Tie as tie
 
 short : (c : tie.Start) → c .args .ink < 2 ^ 64
 short c = omega (arith, c .fits .ink)
 
-measured : (c : tie.Start) → Measured (c .args .run) (c .args .ink)
+measured : (c : tie.Start) → DenseMeasured (c .args .run) (c .args .ink)
 measured c = dense-size (c .args .run) (c .args .ink) (c .pre .0) (short c)
 
 -- the symbols are few
