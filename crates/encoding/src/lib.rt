@@ -17,7 +17,8 @@ ghost use Rattle.morphology.specs.Image.{imageSet, isClean};
 ghost use Rattle.raster.specs.Limits.{maxFrame};
 ghost use Rattle.sections.specs.Pens.{Marked, PenRoom};
 ghost use Rattle.encoding.specs.Encoded.{answerOf};
-ghost use Rattle.encoding.specs.Sizes.{SizeStart, SizeTurned, SizeStepped, Lengths, Gone, Measured, lackingRuns, openRuns, inkRuns, symbolsBelow, sizesAnswer};
+ghost use Rattle.encoding.specs.Sizes.{SizeStart, SizeTurned, SizeStepped, Lengths, Gone, Measured};
+ghost use Rattle.encoding.specs.Sizes.{lackingRuns, openRuns, inkRuns, symbolsBelow, sizesAnswer};
 
 // The answer of the writer; an empty image has no stream and no largest size.
 pub enum Encoded {
