@@ -1,6 +1,7 @@
 //! The operations of 01 and 02 in unproved Rust that works by whole bytes on row slices. They do the
 //! work of the public functions: the same lent buffers, refusals, counts, and cleared work.
 
+mod decode;
 mod encode;
 mod frame;
 mod minimise;
@@ -8,6 +9,7 @@ mod planes;
 mod skeleton;
 mod thin;
 
+pub use decode::decode;
 pub use encode::{encode, Coded};
 pub use minimise::minimise;
 pub use planes::{dilate_plane, erode_plane};

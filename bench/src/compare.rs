@@ -109,20 +109,22 @@ pub fn compare(
     }
 }
 
-/// The best times of two calls that take turns, in microseconds.
-pub fn time_both(
-    lent: [&mut Lent; 2],
-    first: impl Fn(&mut Lent) -> Result<u32, u8>,
-    second: impl Fn(&mut Lent) -> Result<u32, u8>,
-) -> [f64; 2] {
-    let [of_first, of_second] = lent;
-    let first = |lent: &mut Lent| first(lent).expect("sound arguments");
-    let second = |lent: &mut Lent| second(lent).expect("sound arguments");
-    let times = best([
-        &mut |calls| Some(round(calls, of_first, None, first)),
-        &mut |calls| Some(round(calls, of_second, None, second)),
-    ]);
-    times.map(|time| time.unwrap_or(0.0))
+/// A call to be timed; its answer is not looked at.
+pub type Timed<'a> = &'a dyn Fn(&mut Lent) -> Result<u32, u8>;
+
+/// The best times of calls that take turns, in microseconds.
+pub fn time_all(lent: [&mut Lent; 3], calls: [Timed; 3]) -> [f64; 3] {
+    let [mut first, mut second, mut third] = lent
+        .into_iter()
+        .zip(calls)
+        .map(|(lent, call)| {
+            let call = move |lent: &mut Lent| call(lent).expect("sound arguments");
+            move |calls| Some(round(calls, lent, None, call))
+        })
+        .collect::<Vec<_>>()
+        .try_into()
+        .unwrap_or_else(|_| unreachable!());
+    best([&mut first, &mut second, &mut third]).map(|time| time.unwrap_or(0.0))
 }
 
 /// The best time of a call, in microseconds.

@@ -45,6 +45,11 @@ fn main() {
             codes::encode(name, element, &scan);
         }
     }
+    for scan in scans() {
+        for (name, element) in ELEMENTS {
+            codes::decode(name, element, &scan);
+        }
+    }
     codes::table();
     growth::tables();
 }

@@ -2,7 +2,7 @@
 //! operation's number, with x to read and y, z and c to write (`crates/replay/src/main.rt` has the
 //! table). A slice goes as a pointer and a length. Each answers one number or is refused:
 //! `decompose` and `minimise` answer the points, `thin` the passes, `encode` the bytes of the
-//! stream, the others the area.
+//! stream, the others the area. What is decoded here has a largest size: no input is blank.
 
 /// An answer whole; what is timed needs only its first value.
 #[repr(C)]
@@ -72,4 +72,9 @@ pub fn thin(w: u32, h: u32, image: &mut [u8], work: &mut [u8]) -> Result<u32, u8
 #[rustfmt::skip]
 pub fn encode(w: u32, h: u32, element: u32, image: &[u8], out: &mut [u8], work: &mut [u8]) -> Result<u32, u8> {
     first(7, [w, h, element, 0], image, out, work, &mut [])
+}
+
+#[rustfmt::skip]
+pub fn decode(w: u32, h: u32, element: u32, largest: u32, stream: &[u8], image: &mut [u8], work: &mut [u8]) -> Result<u32, u8> {
+    first(8, [w, h, element, largest], stream, image, work, &mut [])
 }

@@ -5,7 +5,7 @@ use super::*;
 use crate::inputs::{images, scans, Scan, ELEMENTS, SIDE};
 use reference::cases::{self, Call};
 use reference::rng::Rng;
-use reference::Answer;
+use reference::{Answer, Mark};
 
 /// What the baseline answers, and the call with every lent buffer as it is afterwards.
 fn run(call: &Call) -> (Answer, Call) {
@@ -35,6 +35,13 @@ fn run(call: &Call) -> (Answer, Call) {
                 Coded { bytes, max_size: Some(max_size) } => Answer::Coded { bytes, max_size },
                 Coded { .. } => Answer::Blank,
             }),
+        Call::Decode { w, h, element, mark, stream, image, work } => {
+            let largest = match *mark {
+                Mark::Blank => None,
+                Mark::Largest(size) => Some(size),
+            };
+            decode(*w, *h, *element, largest, stream, image, work).map(Answer::Area)
+        }
     };
     (answer.unwrap_or_else(Answer::Refused), after)
 }
@@ -66,6 +73,33 @@ fn seeded_codes() {
     let met = [coded, blank, eight];
     assert!(met.iter().all(|&times| times >= 1000), "{met:?}");
     for s in cases::coded() {
+        assert_eq!(run(&s.call), (s.answer, s.after), "case {}", s.case);
+    }
+}
+
+/// Streams of every kind, and the settled readings.
+#[test]
+fn seeded_readings() {
+    const DECODE: usize = 8;
+    let (mut read, mut met) = (0, [0; 3]);
+    for seed in 0..20_000 {
+        let call = cases::call_of(DECODE, seed);
+        let (answer, after) = run(&call);
+        match answer {
+            Answer::Area(_) => read += 1,
+            Answer::Refused(row @ 9..=11) => met[row as usize - 9] += 1,
+            _ => {}
+        }
+        assert!(
+            (answer, after) == cases::run(&call),
+            "seed {seed}: {call:?}"
+        );
+    }
+    assert!(
+        read >= 1000 && met.iter().all(|&times| times >= 300),
+        "{read} {met:?}"
+    );
+    for s in cases::readings() {
         assert_eq!(run(&s.call), (s.answer, s.after), "case {}", s.case);
     }
 }

@@ -1,10 +1,11 @@
 -- A call by number is the operation's own; a reply says the answer that it was made of.
 use mathlib.Core.List.{List, [], _++_, _∷_}
+use mathlib.Core.Option.{none}
 use mathlib.Core.Path.{_∙_, _≡_, ap, refl, sym}
 use Prim.Native.Nat.{_≤_, suc, ℕ}
 use native.Mathlib.Omega.{arith}
 use lib.ListN.{List·getD-eq-default}
-use Rattle.coding.specs.Coding.{encoded}
+use Rattle.reading.specs.Decoding.{decoded}
 use Rattle.encoding.specs.Encoded.{answerOf as encodedAnswer}
 use Rattle.encoding.specs.declared.Encoded.{Encoded}
 use Rattle.encoding.specs.declared.Encoded.the-variants.{Blank as NoStream, Refused as NotEncoded, Stream}
@@ -76,6 +77,6 @@ module _ (W H a b : ℕ) (x y z c : List ℕ) where
   pub called-as : {op : ℕ} (k : ℕ) → op ≡ k → called op W H a b x y z c ≡ called k W H a b x y z c
   called-as k e = ap (λ (n : ℕ). called n W H a b x y z c) e
 
-  pub called-encode : (op : ℕ) → 7 ≤ op → called op W H a b x y z c ≡ beside (encoded W H a x y z) (c ∷ [])
+  pub called-blank : (op : ℕ) → 9 ≤ op → called op W H a b x y z c ≡ beside (decoded W H a none x y z) (c ∷ [])
   unfolding called
-  called-encode op h = List·getD-eq-default (operations W H a b x y z c) _ h
+  called-blank op h = List·getD-eq-default (operations W H a b x y z c) _ h

@@ -1,6 +1,7 @@
 // A call of a public operation by its number, with its answer as numbers.
 mod format;
 
+use decoding::Mark;
 use encoding::Encoded;
 pub use format::HEADER;
 pub use format::answer;
@@ -68,7 +69,7 @@ fn two(v: u32, u: u32) -> Reply
     }
 }
 
-// The answer of an erosion, an opening, a reconstruction or hit-or-miss.
+// The answer of an erosion, an opening, a reconstruction, hit-or-miss or the reader of codes.
 fn of_written(a: Written) -> Reply
     ensures { λ r. ⌜ r ≡ replyOf (writtenAnswer a) ⌝ }
 {
@@ -155,6 +156,8 @@ pub extern "C" fn call(
         4 => of_minimised(minimal::minimise(w, h, a, y, z, c)),
         5 => of_written(thinning::hit_or_miss(w, h, a, b, x, y)),
         6 => of_thinned(thinning::thin(w, h, y, z)),
-        _ => of_encoded(encoding::encode(w, h, a, x, y, z)),
+        7 => of_encoded(encoding::encode(w, h, a, x, y, z)),
+        8 => of_written(decoding::decode(w, h, a, Mark::Largest(b), x, y, z)),
+        _ => of_written(decoding::decode(w, h, a, Mark::Blank, x, y, z)),
     }
 }

@@ -1,9 +1,11 @@
 -- A call that is not refused: no row holds, and the outcome is the success.
 use mathlib.Core.List.{List, [], _++_, _∷_}
+use mathlib.Core.Option.{Option}
 use mathlib.Core.Path.{_∙_, _≡_, ap, sym}
 use Prim.Native.Nat.{_-_, suc, ℕ}
 use lib.Dec.{T}
 use lib.ListN.{drop, length}
+use Rattle.claims.proofs.RowLaws.{code-rises, rises-numbered}
 use Rattle.coding.specs.Codes.{codeOf}
 use Rattle.coding.specs.Coding.{coded, coding, encodeRows, encoded}
 use Rattle.morphology.specs.Answers.{Outcome, foreground, outcome, thinned}
@@ -14,6 +16,7 @@ use Rattle.morphology.specs.Minimal.{minimalLabels}
 use Rattle.morphology.specs.Morphology.{erode, opening, times}
 use Rattle.morphology.specs.Operations.{
   cleared,
+  clearedPlanes,
   decomposeRows,
   decomposed,
   eroded,
@@ -35,6 +38,8 @@ use Rattle.morphology.specs.Refusals.{Row, checked, firstRefusal, row8}
 use Rattle.morphology.specs.Skeleton.{reconstruction, skeletonLabels}
 use Rattle.morphology.specs.Thinning.{hit, thinPasses}
 use Rattle.morphology.proofs.RefusalLaws.{Clear, clear-out, numbered, unless-out, unless-zero}
+use Rattle.reading.specs.Decoding.{decodeRows, decoded, decoding}
+use Rattle.reading.specs.Maps.{codeRows, codeSet}
 
 pub record Accepted (rows : List Row) (o success : Outcome) : Type 0 where
   pub clear : Clear rows
@@ -103,3 +108,19 @@ encoded-accepted W H e image out work h =
     (ap (λ (o : Outcome). o .answer .refusal) (sym (a .is)) ∙ h) in
     let c = a .clear in
     record { clear = (c .0, (c .1 .0, (c .1 .1 .0, (c .1 .1 .1 .0, b .clear)))); is = a .is ∙ b .is }
+
+-- the reader's: rows 1 to 3, then those of the stream
+pub decoded-accepted : (W H e : ℕ) (n : Option ℕ) (bytes image work : List ℕ) → decoded W H e n bytes image work .answer .refusal ≡ 0
+    → let X = codeSet W H (offsets e) n bytes in
+    Accepted (decodeRows W H e image work ++ codeRows W H (offsets e) n bytes) (decoded W H e n bytes image work)
+    (outcome (foreground (area W H X)) (pack W H X ∷ clearedPlanes 5 W H work ∷ []))
+unfolding decoded
+decoded-accepted W H e n bytes image work h =
+    let B = offsets e in
+    let X = codeSet W H B n bytes in
+    let w = clearedPlanes 5 W H work in
+    let a = accepted (decodeRows W H e image work) (image ∷ work ∷ []) (decoding W H (codeRows W H B n bytes) X image work) tt h in
+    let b = accepted (codeRows W H B n bytes) (image ∷ w ∷ []) (outcome (foreground (area W H X)) (pack W H X ∷ w ∷ []))
+    (rises-numbered 3 (codeRows W H B n bytes) (code-rises W H B n bytes)) (ap (λ (o : Outcome). o .answer .refusal) (sym (a .is)) ∙ h) in
+    let c = a .clear in
+    record { clear = (c .0, (c .1 .0, (c .1 .1 .0, b .clear))); is = a .is ∙ b .is }

@@ -9,7 +9,7 @@ use native.Mathlib.Omega.{arith}
 use borrow.Author.Tests.{ne-eqb}
 use lib.Dec.{T, eqb}
 use lib.IntN.{pos}
-use lib.ListN.{getD, length}
+use lib.ListN.{getD}
 use Rattle.claims.specs.Claims.{
   Buffers,
   CutIsOpening,
@@ -31,6 +31,7 @@ use Rattle.claims.specs.Claims.{
 }
 use Rattle.claims.specs.Formula.{HasSize, Ink, Offset}
 use Rattle.claims.specs.Sieves.{accepted, isRefused, largestCut, rebuilt, sieveAll, sieveRefused, takenApart}
+use Rattle.reading.proofs.OwnFacts.{length-labels}
 use Rattle.morphology.specs.Answers.{Outcome, foreground, outcome, output, thinned}
 use Rattle.morphology.specs.Element.{isElement, isMask, offsets}
 use Rattle.morphology.specs.Image.{imageSet, pack}
@@ -82,7 +83,7 @@ use Rattle.morphology.proofs.CoverLaws.{size-zero}
 use Rattle.morphology.proofs.ElementLaws.{Element, element}
 use Rattle.morphology.proofs.FrameLaws.{OnFrame}
 use Rattle.morphology.proofs.ImageLaws.{image-on, image-pack}
-use Rattle.morphology.proofs.LabelLaws.{length-raster, of-places, on-places}
+use Rattle.morphology.proofs.LabelLaws.{of-places, on-places}
 use Rattle.morphology.proofs.MorphologyLaws.{eroded-zero, open-zero, ⊆-of-eq}
 use Rattle.morphology.proofs.PlaneLaws.{byte-lt, on-sub, plane-back}
 use Rattle.morphology.proofs.ReconstructLaws.{reconstruction-on}
@@ -120,7 +121,7 @@ refuses-exactly = record {
 -- ---- demand 2
 
 -- an accepted image is its set, packed
-canonical : (W H : ℕ) (image : List ℕ) → Image W H image → pack W H (imageSet W H image) ≡ image
+pub canonical : (W H : ℕ) (image : List ℕ) → Image W H image → pack W H (imageSet W H image) ≡ image
 canonical W H image i = let g = good W H image (i .passes) in plane-back W H image (record { size = g .size; bytes = λ k. byte-lt image k (i .bytes); clean = g .clean })
 
 -- a decomposition that is let pass
@@ -131,10 +132,6 @@ unfolding decomposed
 decomposed-is W H e image m w i el b =
     unless-in (firstRefusal (decomposeRows W H e image m w)) (m ∷ w ∷ []) (labelled W H (skeletonLabels W H (offsets e) (imageSet W H image)) w)
     (decompose-passes W H e image m w (good W H image (i .passes)) el (b .labels) (b .work))
-
-length-labels : (W H : ℕ) (B : List Point) (X : Point → Bool) → length (skeletonLabels W H B X) ≡ W * H
-unfolding skeletonLabels
-length-labels W H B X = length-raster W H _
 
 pub labels-stay : LabelsStay
 labels-stay W H e image k el = false-of _ (skeleton-tame W H (offsets e) (element e el) (imageSet W H image) (image-on W H image) k)

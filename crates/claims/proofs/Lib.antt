@@ -8,3 +8,4 @@ pub mod ShorteningLaws
 pub mod Claims
 pub mod SymbolLaws
 pub mod Codes
+pub mod Readings

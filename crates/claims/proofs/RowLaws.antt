@@ -2,6 +2,7 @@
 use mathlib.Core.Bool.{Bool, _&&_, cond, false, not, true}
 use mathlib.Core.List.{List, List·Memᴰ, List·Memᴰ·head, List·Memᴰ·not-nil, List·Memᴰ·tail, Memᴰ·append-right, [], _++_, _∷_}
 use mathlib.Core.Logic.{_≢_}
+use mathlib.Core.Option.{Option, none, some}
 use mathlib.Core.Path.{_∙_, _≡_, ap, refl, subst, sym}
 use Prim.Native.Nat.{_<_, _≤_, suc, zero, ℕ}
 use native.Mathlib.Omega.{arith}
@@ -10,9 +11,11 @@ use lib.Dec.{T, eqb, eqb→eq, ltb, ltb→lt, not-T}
 use Rattle.claims.specs.Claims.{Holds, Refuses}
 use Rattle.claims.specs.Codes.{RefusesLate}
 use Rattle.morphology.specs.Answers.{Outcome, outcome, refused}
+use Rattle.morphology.specs.Point.{Point}
 use Rattle.morphology.specs.Refusals.{Row, checked, firstRefusal, unless}
 use Rattle.morphology.proofs.RefusalLaws.{first-append, numbered, then-first, then-second, unless-refused}
 use Rattle.morphology.proofs.TestLaws.{and-in, and-l, and-r}
+use Rattle.reading.specs.Maps.{Reading, codeRows, mapRows, readMap}
 
 -- the numbers rise, the first from lo on
 abbrev pub rises : ℕ → List Row → Bool
@@ -71,7 +74,7 @@ rises-left lo (r ∷ rows) late t =
     and-in (ltb lo (r .0)) (rises (r .0) rows) (and-l (ltb lo (r .0)) (rises (r .0) (rows ++ late)) t)
     (rises-left (r .0) rows late (rises-rest lo r (rows ++ late) t))
 
-rises-numbered : (lo : ℕ) (rows : List Row) → T (rises lo rows) → T (numbered rows)
+pub rises-numbered : (lo : ℕ) (rows : List Row) → T (rises lo rows) → T (numbered rows)
 rises-numbered lo [] t = tt
 rises-numbered lo (r ∷ rows) t =
     and-in (not (eqb (r .0) 0)) (numbered rows)
@@ -132,3 +135,13 @@ refuses-late rows late lent tidied o t q = record {
     second (suc n) p h =
         let l = before 0 rows late t (first-holds rows (λ z. suc-ne-zero n (sym p ∙ z))) h in
         absurd (omega arith)
+
+-- the rows of a stream may follow row 3
+pub code-rises : (W H : ℕ) (B : List Point) (n : Option ℕ) (bytes : List ℕ) → T (rises 3 (codeRows W H B n bytes))
+unfolding codeRows
+code-rises W H B none bytes = tt
+code-rises W H B (some n) bytes = by (readMap W H B n bytes)
+  where
+    by : (o : Option Reading) → T (rises 3 (mapRows W H B n o))
+    by none = tt
+    by (some r) = tt

@@ -2,3 +2,4 @@ pub mod Formula
 pub mod Sieves
 pub mod Claims
 pub mod Codes
+pub mod Readings

@@ -19,7 +19,7 @@ use Rattle.morphology.specs.Image.{bitOf, fromBits, imageSet, inside, isClean, 
 use Rattle.morphology.specs.Labels.{area, labelAt, places, raster}
 use Rattle.morphology.specs.Lists.{countOf, greatest, tabulate}
 use Rattle.morphology.specs.Morphology.{dilate, erode, minkowski, opening, times}
-use Rattle.morphology.specs.Operations.{cleared}
+use Rattle.morphology.specs.Operations.{clearedPlanes}
 use Rattle.morphology.specs.Point.{Point, _⊞_, at, minus, origin, sameInteger, samePoint}
 use Rattle.morphology.specs.Refusals.{checked, firstRefusal}
 use Rattle.morphology.specs.Skeleton.{pick, skeletonFunction, skeletonLabels, skeletonSubset}
@@ -31,7 +31,7 @@ use Rattle.morphology.proofs.PlaneLaws.{Empty}
 use Rattle.morphology.proofs.SubsetLaws.{eroded-down}
 
 table : map (λ (c : Case). c .0) cases ≡ map (λ (c : Case). c .1) cases
-unfolding cases _⊞_ origin minus stride bitOf pixel imageSet offset offsetsBelow offsets tabulate fromBits pack greatest pick erode dilate opening minkowski times skeletonSubset skeletonFunction skeletonLabels sameInteger samePoint places raster labelAt countOf area isClean isElement firstRefusal cleared encoded keep mask runs runsDown unmasked numeral numeralBefore packSymbols parted section sections mapRuns mapSymbols mapCode ofSize sizesDown codeOf
+unfolding cases _⊞_ origin minus stride bitOf pixel imageSet offset offsetsBelow offsets tabulate fromBits pack greatest pick erode dilate opening minkowski times skeletonSubset skeletonFunction skeletonLabels sameInteger samePoint places raster labelAt countOf area isClean isElement firstRefusal clearedPlanes encoded keep mask runs runsDown unmasked numeral numeralBefore packSymbols parted section sections mapRuns mapSymbols mapCode ofSize sizesDown codeOf
 table = refl
 
 -- ---- the sample
@@ -42,7 +42,7 @@ X = imageSet 40 1 sampleImage
 abbrev B : List Point
 B = offsets SQUARE
 
-square : T (isElement SQUARE)
+pub square : T (isElement SQUARE)
 unfolding isElement offsets offsetsBelow
 square = tt
 
@@ -68,26 +68,30 @@ sample-labels : skeletonLabels 40 1 B X ≡ labelsBelow 40 1 B X 1
 sample-labels = sym (labels-done 40 1 B (element SQUARE square) X (image-on 40 1 sampleImage) 1 sample-eroded)
 
 sample-runs : mapRuns 40 1 B (labelsBelow 40 1 B X 1) 0 ≡ sampleRuns ∷ []
-unfolding _⊞_ origin minus stride bitOf pixel imageSet offset offsetsBelow offsets tabulate fromBits pack greatest pick erode dilate opening minkowski times skeletonSubset skeletonFunction skeletonLabels sameInteger samePoint places raster labelAt countOf area isClean isElement firstRefusal cleared encoded keep mask runs runsDown unmasked numeral numeralBefore packSymbols parted section sections mapRuns mapSymbols mapCode ofSize sizesDown codeOf
+unfolding _⊞_ origin minus stride bitOf pixel imageSet offset offsetsBelow offsets tabulate fromBits pack greatest pick erode dilate opening minkowski times skeletonSubset skeletonFunction skeletonLabels sameInteger samePoint places raster labelAt countOf area isClean isElement firstRefusal clearedPlanes encoded keep mask runs runsDown unmasked numeral numeralBefore packSymbols parted section sections mapRuns mapSymbols mapCode ofSize sizesDown codeOf
 sample-runs = refl
 
 sample-code : mapCode 40 1 B (labelsBelow 40 1 B X 1) (greatest (labelsBelow 40 1 B X 1)) ≡ code (some 0) sampleStream
-unfolding _⊞_ origin minus stride bitOf pixel imageSet offset offsetsBelow offsets tabulate fromBits pack greatest pick erode dilate opening minkowski times skeletonSubset skeletonFunction skeletonLabels sameInteger samePoint places raster labelAt countOf area isClean isElement firstRefusal cleared encoded keep mask runs runsDown unmasked numeral numeralBefore packSymbols parted section sections mapRuns mapSymbols mapCode ofSize sizesDown codeOf
+unfolding _⊞_ origin minus stride bitOf pixel imageSet offset offsetsBelow offsets tabulate fromBits pack greatest pick erode dilate opening minkowski times skeletonSubset skeletonFunction skeletonLabels sameInteger samePoint places raster labelAt countOf area isClean isElement firstRefusal clearedPlanes encoded keep mask runs runsDown unmasked numeral numeralBefore packSymbols parted section sections mapRuns mapSymbols mapCode ofSize sizesDown codeOf
 sample-code = refl
 
 sample-answer : checked (encodeRows 40 1 SQUARE sampleImage (dirty 40 1)) (sevens 6 ∷ dirty 40 1 ∷ []) (coding 40 1 (code (some 0) sampleStream) (sevens 6) (dirty 40 1))
     ≡ outcome (answered (5 ∷ 0 ∷ [])) ((sampleStream ++ 7 ∷ []) ∷ tidy 40 1 ∷ [])
-unfolding _⊞_ origin minus stride bitOf pixel imageSet offset offsetsBelow offsets tabulate fromBits pack greatest pick erode dilate opening minkowski times skeletonSubset skeletonFunction skeletonLabels sameInteger samePoint places raster labelAt countOf area isClean isElement firstRefusal cleared encoded keep mask runs runsDown unmasked numeral numeralBefore packSymbols parted section sections mapRuns mapSymbols mapCode ofSize sizesDown codeOf
+unfolding _⊞_ origin minus stride bitOf pixel imageSet offset offsetsBelow offsets tabulate fromBits pack greatest pick erode dilate opening minkowski times skeletonSubset skeletonFunction skeletonLabels sameInteger samePoint places raster labelAt countOf area isClean isElement firstRefusal clearedPlanes encoded keep mask runs runsDown unmasked numeral numeralBefore packSymbols parted section sections mapRuns mapSymbols mapCode ofSize sizesDown codeOf
 sample-answer = refl
 
+-- its code
+pub sample-own : codeOf 40 1 (offsets SQUARE) (imageSet 40 1 sampleImage) ≡ code (some 0) sampleStream
+unfolding codeOf
+sample-own = ap (λ (m : List ℕ). mapCode 40 1 B m (greatest m)) sample-labels ∙ sample-code
+
 sample : Sample
-unfolding encoded codeOf
+unfolding encoded
 sample = record {
   runs = ap (λ (m : List ℕ). mapRuns 40 1 B m 0) sample-labels ∙ sample-runs;
   written =
-      ap (λ (m : List ℕ). checked (encodeRows 40 1 SQUARE sampleImage (dirty 40 1)) (sevens 6 ∷ dirty 40 1 ∷ []) (coding 40 1 (mapCode 40 1 B m (greatest m)) (sevens 6) (dirty 40 1))) sample-labels
-      ∙ ap (λ (t : Code). checked (encodeRows 40 1 SQUARE sampleImage (dirty 40 1)) (sevens 6 ∷ dirty 40 1 ∷ []) (coding 40 1 t (sevens 6) (dirty 40 1))) sample-code
-      ∙ sample-answer;
+      let rows = encodeRows 40 1 SQUARE sampleImage (dirty 40 1) in
+      ap (λ (t : Code). checked rows (sevens 6 ∷ dirty 40 1 ∷ []) (coding 40 1 t (sevens 6) (dirty 40 1))) sample-own ∙ sample-answer;
 }
 
 pub settled : Settled

@@ -12,7 +12,7 @@ use lib.ListN.{length, length-append}
 use Rattle.coding.specs.Symbols.{numeral, numeralBefore}
 
 -- more fuel changes nothing
-enough : (f g n : ℕ) (ds : List ℕ) → n < f → n < g → numeralBefore f n ds ≡ numeralBefore g n ds
+pub enough : (f g n : ℕ) (ds : List ℕ) → n < f → n < g → numeralBefore f n ds ≡ numeralBefore g n ds
 unfolding numeralBefore
 enough zero g n ds h k = absurd (not-suc-le-zero h)
 enough (suc f) zero n ds h k = absurd (not-suc-le-zero k)
@@ -23,7 +23,7 @@ enough (suc f) (suc g) n ds h k = go (enough f g (n / 3) (n % 3 ∷ ds)) (ltb n 
     go rest true q = refl
     go rest false q = let l = ltb-false n 3 q in rest (omega arith) (omega arith)
 
-single : (f n : ℕ) (ds : List ℕ) → n < 3 → numeralBefore (suc f) n ds ≡ n ∷ ds
+pub single : (f n : ℕ) (ds : List ℕ) → n < 3 → numeralBefore (suc f) n ds ≡ n ∷ ds
 unfolding numeralBefore
 single f n ds h = ap (λ (b : Bool). cond b (n ∷ ds) (numeralBefore f (n / 3) (n % 3 ∷ ds))) (lt-ltb n 3 h)
 

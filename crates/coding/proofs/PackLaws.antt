@@ -33,7 +33,7 @@ pack-symbols (v ∷ bytes) t =
 
 -- ---- symbols again, with the padding after them
 
-four : (a b c d : ℕ) (l m : List ℕ) → a < 4 → b < 4 → c < 4 → d < 4 → l ≡ m
+pub four : (a b c d : ℕ) (l m : List ℕ) → a < 4 → b < 4 → c < 4 → d < 4 → l ≡ m
     → _≡_ {A = List ℕ} (quad a b c d / 64 % 4 ∷ quad a b c d / 16 % 4 ∷ quad a b c d / 4 % 4 ∷ quad a b c d % 4 ∷ l) (a ∷ b ∷ c ∷ d ∷ m)
 four a b c d l m ha hb hc hd e =
     let p : quad a b c d / 64 % 4 ≡ a = omega arith in

@@ -8,7 +8,7 @@ use Rattle.coding.specs.Runs.{keep, runs, unmasked}
 use Rattle.morphology.specs.Labels.{places}
 use Rattle.morphology.specs.Point.{Point}
 
-keep-out : (p : Point → Bool) (l : List Point) {z : Point} → List·Memᴰ z (keep p l) → List·Memᴰ z l × T (p z)
+pub keep-out : (p : Point → Bool) (l : List Point) {z : Point} → List·Memᴰ z (keep p l) → List·Memᴰ z l × T (p z)
 unfolding keep
 keep-out p [] m = absurd (List·Memᴰ·not-nil m)
 keep-out p (x ∷ l) {z} m = go (p x) refl (λ k. keep-out p l k) m
@@ -24,7 +24,7 @@ keep-agree p q [] f = refl
 keep-agree p q (x ∷ l) f =
     ap₂ (λ (b : Bool) (r : List Point). cond b (x ∷ r) r) (f x (List·Memᴰ·head refl)) (keep-agree p q l (λ z m. f z (List·Memᴰ·tail m)))
 
-runs-agree : (S U : Point → Bool) (k : ℕ) (l : List Point) → ((z : Point) → List·Memᴰ z l → S z ≡ U z) → runs S k l ≡ runs U k l
+pub runs-agree : (S U : Point → Bool) (k : ℕ) (l : List Point) → ((z : Point) → List·Memᴰ z l → S z ≡ U z) → runs S k l ≡ runs U k l
 unfolding runs
 runs-agree S U k [] f = refl
 runs-agree S U k (z ∷ l) f =

@@ -14,7 +14,7 @@ use Rattle.morphology.specs.Element.{isElement, offsets}
 use Rattle.morphology.specs.Image.{clip, imageSet, isClean, onFrame, onesOf, pack, planeBytes, stride}
 use Rattle.morphology.specs.Lists.{someOf}
 use Rattle.morphology.specs.Morphology.{dilate, erode, times}
-use Rattle.morphology.specs.Operations.{cleared}
+use Rattle.morphology.specs.Operations.{cleared, clearedPlanes}
 use Rattle.morphology.specs.Point.{Point}
 use Rattle.morphology.specs.Refusals.{notPlane, row4, shortWork}
 use Rattle.morphology.proofs.DecomposeLaws.{eroded-on}
@@ -240,7 +240,7 @@ drop-later k n u v h e =
 -- work as it is left: three planes cleared, and as it was from some byte of them on
 pub work-cleared : (W H p k : ℕ) (work u : List ℕ) → p ≡ planeBytes W H → k ≤ 3 * p → drop k u ≡ drop k work
     → replicate (3 * p) 0 ++ drop (3 * p) u ≡ cleared W H work
-unfolding cleared
+unfolding clearedPlanes
 work-cleared W H p k work u q h e =
     ap (λ (l : List ℕ). replicate (3 * p) 0 ++ l) (drop-later k (3 * p) u work h e) ∙ ap (λ (n : ℕ). replicate (3 * n) 0 ++ drop (3 * n) work) q
 

@@ -5,7 +5,7 @@ use Rattle.morphology.specs.Image.{bitOf, imageSet, isClean, pixel, stride}
 use Rattle.morphology.specs.Labels.{raster}
 use Rattle.morphology.specs.Lists.{countOf, greatest, tabulate}
 use Rattle.morphology.specs.Morphology.{dilate, erode, minkowski, opening, times}
-use Rattle.morphology.specs.Operations.{cleared, decomposed}
+use Rattle.morphology.specs.Operations.{clearedPlanes, decomposed}
 use Rattle.morphology.specs.Point.{_⊞_, minus, origin}
 use Rattle.morphology.specs.Refusals.{firstRefusal}
 use Rattle.morphology.specs.Skeleton.{pick, skeletonFunction, skeletonLabels, skeletonSubset}
@@ -14,5 +14,5 @@ use Rattle.listing.specs.Printed.{answerText, printed, refusalText, skel
 use Rattle.listing.specs.Text.{after, decimal, digits, line, mapText, spaced}
 
 pub settled : Settled
-unfolding after digits decimal spaced line mapText refusalText skeletonText answerText printed _⊞_ origin minus stride bitOf pixel imageSet offset offsetsBelow offsets tabulate greatest pick erode dilate opening minkowski times skeletonSubset skeletonFunction skeletonLabels raster countOf isClean cleared isElement firstRefusal decomposed
+unfolding after digits decimal spaced line mapText refusalText skeletonText answerText printed _⊞_ origin minus stride bitOf pixel imageSet offset offsetsBelow offsets tabulate greatest pick erode dilate opening minkowski times skeletonSubset skeletonFunction skeletonLabels raster countOf isClean clearedPlanes isElement firstRefusal decomposed
 settled = refl

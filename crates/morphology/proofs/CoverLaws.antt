@@ -3,13 +3,12 @@ use mathlib.Core.Bool.{Bool, _&&_, _||_, false, not, true}
 use mathlib.Core.List.{List, List·Memᴰ, List·Memᴰ·eq-of-singleton}
 use mathlib.Core.Logic.{_⊎_, inl, inr}
 use mathlib.Core.Path.{_∙_, _≡_, ap, ap₂, refl, subst, sym}
-use Prim.Native.Nat.{_*_, _+_, _<_, max, suc, zero, zero-le, ℕ}
-use native.Mathlib.Nat.{div-add-mod', suc-ne-zero, zero-add}
+use Prim.Native.Nat.{_*_, _<_, max, suc, zero, zero-le, ℕ}
+use native.Mathlib.Nat.{suc-ne-zero, zero-add}
 use native.Mathlib.Numerals.{add-one}
 use native.Mathlib.Omega.{arith}
 use borrow.Author.Tests.{le-leb}
 use lib.Dec.{T, T-not, eqb, eqb-refl, leb}
-use lib.IntN.{negsuc, pos, ℤ}
 use lib.ListN.{getD}
 use Rattle.morphology.specs.Image.{inside, onFrame}
 use Rattle.morphology.specs.Labels.{labelAt, place, places, raster}
@@ -22,7 +21,7 @@ use Rattle.morphology.specs.Skeleton.{reconstruct, reconstruction, skele
 use Rattle.morphology.proofs.ElementLaws.{Element}
 use Rattle.morphology.proofs.FrameLaws.{OnFrame}
 use Rattle.morphology.proofs.ImageLaws.{mem-row, row-mem}
-use Rattle.morphology.proofs.LabelLaws.{getD-place, labelAt-place}
+use Rattle.morphology.proofs.LabelLaws.{getD-place, labelAt-place, place-inj}
 use Rattle.morphology.proofs.MinimalLaws.{Sub, covered, covered-sub, covers-out, minimal-keeps, other}
 use Rattle.morphology.proofs.MorphologyLaws.{dilate-in, erode-out, erode-times, eroded-suc, sum-out, ⊆-of-eq}
 use Rattle.morphology.proofs.PointLaws.{assoc, unit}
@@ -125,14 +124,6 @@ module _ (W H : ℕ) (B : List Point) (el : Element B) where
       subst (λ (z : Point). T (opening B (erode (times B 0) X) z)) (assoc p a b ∙ ap (λ (d : Point). p ⊞ d) (sym (r .4)))
       (dilate-in B (erode B (erode (times B 0) X)) (p ⊞ a) b w (r .3))
 
-  place-inj : (i j : ℕ) → place W i ≡ place W j → i ≡ j
-  place-inj i j q =
-      sym (div-add-mod' i W) ∙ ap₂ (λ (a b : ℕ). a * W + b) (ap (λ (p : Point). nat (p .y)) q) (ap (λ (p : Point). nat (p .x)) q) ∙ div-add-mod' j W
-    where
-      nat : ℤ → ℕ
-      nat (pos n) = n
-      nat (negsuc n) = 0
-
   pub size-zero : (X : Point → Bool) → OnFrame W H X → (i : ℕ) → i < W * H → getD (skeletonLabels W H B X) i 0 ≡ 1
       → getD (minimalLabels W H B (skeletonLabels W H B X)) i 0 ≡ 1
   unfolding skeletonLabels isRedundant times skeletonSubset minimalLabels
@@ -152,7 +143,7 @@ module _ (W H : ℕ) (B : List Point) (el : Element B) where
           → place W i ⊞ origin ≡ place W j ⊞ c → ⊥
       other-cover j zero c ne t k p =
           let d = p ∙ ap (λ (x : Point). place W j ⊞ x) (List·Memᴰ·eq-of-singleton k) ∙ unit (place W j) in
-          T-not (eqb j i) ne (subst (λ (x : ℕ). T (eqb j x)) (place-inj j i (sym (sym (unit (place W i)) ∙ d))) (eqb-refl j))
+          T-not (eqb j i) ne (subst (λ (x : ℕ). T (eqb j x)) (place-inj W j i (sym (sym (unit (place W i)) ∙ d))) (eqb-refl j))
       other-cover j (suc n) c ne t k p =
           T-not (opening B (erode (times B 0) X) (place W i)) (and-r (erode (times B 0) X (place W i)) (not (opening B (erode (times B 0) X) (place W i))) own-size)
           (subst (λ (z : Point). T (opening B (erode (times B 0) X) z)) (sym p ∙ unit (place W i))

@@ -22,7 +22,7 @@ use Rattle.morphology.proofs.TestLaws.{T-ext, all-in, all-out, and-in, 
 
 -- ---- the largest
 
-extent-le : (f : Point → ℕ) {b : Point} (B : List Point) → List·Memᴰ b B → f b ≤ extent f B
+pub extent-le : (f : Point → ℕ) {b : Point} (B : List Point) → List·Memᴰ b B → f b ≤ extent f B
 unfolding extent greatest
 extent-le f [] m = absurd (List·Memᴰ·not-nil m)
 extent-le f {b} (x ∷ B) (List·Memᴰ·head e) = let q : f b ≡ f x = ap f e in omega arith

@@ -9,12 +9,20 @@ use lib.Arith.{digits-div, digits-lt, digits-mod}
 use lib.Dec.{T, ltb→lt}
 use lib.IntN.{negsuc, pos, ℤ}
 use lib.ListN.{getD, length}
+use Rattle.morphology.specs.Extent.{above}
 use Rattle.morphology.specs.Image.{inside}
 use Rattle.morphology.specs.Labels.{labelAt, place, places, raster}
 use Rattle.morphology.specs.Lists.{tabulate}
 use Rattle.morphology.specs.Point.{Point, at}
 use Rattle.morphology.proofs.FrameLaws.{OnFrame}
 use Rattle.morphology.proofs.ImageLaws.{getD-row, length-row, mem-row, row-mem}
+
+-- a place has one index
+pub place-inj : (W i j : ℕ) → place W i ≡ place W j → i ≡ j
+place-inj W i j e =
+    let p : i % W ≡ j % W = ap (λ (z : Point). above (z .x)) e in
+    let q : i / W ≡ j / W = ap (λ (z : Point). above (z .y)) e in
+    sym (div-add-mod' i W) ∙ ap₂ (λ (a b : ℕ). a * W + b) q p ∙ div-add-mod' j W
 
 pub place-at : (W x y : ℕ) → x < W → place W (y * W + x) ≡ at (pos x) (pos y)
 place-at W x y h = ap₂ (λ (u v : ℕ). at (pos u) (pos v)) (digits-mod y h) (digits-div y h)

@@ -18,6 +18,7 @@ pub mod ThinningLaws
 pub mod CountLaws
 pub mod PlaneLaws
 pub mod BandLaws
+pub mod FallsLaws
 pub mod DecomposeLaws
 pub mod ReconstructLaws
 pub mod FoldTurns

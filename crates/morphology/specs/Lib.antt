@@ -12,6 +12,7 @@ pub mod Thinning
 pub mod Answers
 pub mod Refusals
 pub mod Operations
+pub mod Falls
 pub mod Extent
 pub mod Partial
 pub mod Cases

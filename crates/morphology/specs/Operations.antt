@@ -16,9 +16,13 @@ use Rattle.morphology.specs.Refusals.{Row, checked, notPlaces, notPlane,
 use Rattle.morphology.specs.Skeleton.{reconstruction, skeletonLabels}
 use Rattle.morphology.specs.Thinning.{hit, thinPasses}
 
--- work after a success: its first 3P bytes are 0, the rest is as it was
-unfoldable pub cleared : ℕ → ℕ → List ℕ → List ℕ
-cleared W H work = replicate (3 * planeBytes W H) 0 ++ drop (3 * planeBytes W H) work
+-- the first k planes of work are 0, the rest is as it was
+unfoldable pub clearedPlanes : ℕ → ℕ → ℕ → List ℕ → List ℕ
+clearedPlanes k W H work = replicate (k * planeBytes W H) 0 ++ drop (k * planeBytes W H) work
+
+-- work after a success: its first 3P bytes
+abbrev pub cleared : ℕ → ℕ → List ℕ → List ℕ
+cleared W H work = clearedPlanes 3 W H work
 
 -- the set X written as an image and answered by its area; work cleared
 abbrev pub writes : ℕ → ℕ → (Point → Bool) → List ℕ → Outcome

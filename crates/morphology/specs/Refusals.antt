@@ -19,15 +19,18 @@ maxSide = 255
 abbrev pub isSide : ℕ → Bool
 isSide n = leb 1 n && leb n maxSide
 
--- an image that is not P bytes; labels or counters that are not W times H; work below 3P
+-- an image that is not P bytes; labels or counters that are not W times H; work below k planes, and below the 3P of most operations
 abbrev pub notPlane : ℕ → ℕ → List ℕ → Bool
 notPlane W H s = not (eqb (length s) (planeBytes W H))
 
 abbrev pub notPlaces : ℕ → ℕ → List ℕ → Bool
 notPlaces W H m = not (eqb (length m) (W * H))
 
+abbrev pub shortPlanes : ℕ → ℕ → ℕ → List ℕ → Bool
+shortPlanes k W H w = ltb (length w) (k * planeBytes W H)
+
 abbrev pub shortWork : ℕ → ℕ → List ℕ → Bool
-shortWork W H w = ltb (length w) (3 * planeBytes W H)
+shortWork W H w = shortPlanes 3 W H w
 
 -- a point p with this label, kept from cut k on, leaves the frame when it is dilated to its size
 unfoldable pub leaves : ℕ → ℕ → List Point → ℕ → Point → ℕ → Bool

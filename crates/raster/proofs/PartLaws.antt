@@ -60,6 +60,18 @@ part-more a k v old ys new h e m =
       after = λ j le. getD-set-other new (a + k) j v 0 (λ p. omega arith) ∙ m .after j (omega arith);
     }
 
+-- what is before a part, and after it
+pub part-take : {a k : ℕ} {old ys new : List ℕ} → PartIs a k old ys new → (m : ℕ) → m ≤ a → m ≤ length old → take m new ≡ take m old
+part-take {old = old} {new = new} p m l h =
+    let e = length-take-le m new (omega (arith, p .size)) in
+    ext-getD 0 (take m new) (take m old) (e ∙ sym (length-take-le m old h)) (λ j g.
+    getD-take m new j 0 (omega arith) ∙ p .before j (omega arith) ∙ sym (getD-take m old j 0 (omega arith)))
+
+pub part-drop : {a k : ℕ} {old ys new : List ℕ} → PartIs a k old ys new → (m : ℕ) → a + k ≤ m → drop m new ≡ drop m old
+part-drop {old = old} {new = new} p m l =
+    ext-getD 0 (drop m new) (drop m old) (length-drop m new ∙ ap (λ (n : ℕ). n - m) (p .size) ∙ sym (length-drop m old)) (λ j g.
+    getD-drop m new j 0 ∙ p .after (m + j) (omega arith) ∙ sym (getD-drop m old j 0))
+
 -- ---- written over
 
 -- a part of k elements, lent and back

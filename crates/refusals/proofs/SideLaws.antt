@@ -80,8 +80,8 @@ shaped w h e wrong rows t q z =
 pub product-lt : (a b : ℕ) → a < 2 ^ 32 → b < 2 ^ 32 → a * b < 2 ^ 64
 product-lt a b p q = let l : a ≤ 2 ^ 32 - 1 = omega arith in omega (arith, mul-le-mul-right b l)
 
-pub plane-lt : (w h : ℕ) → w < 2 ^ 32 → h < 2 ^ 32 → h * ((w + 7) / 8) < 2 ^ 62
-plane-lt w h p q = let l : h ≤ 2 ^ 32 = omega arith in omega (arith, mul-le-mul-right ((w + 7) / 8) l)
+pub plane-lt : (w h : ℕ) → w < 2 ^ 32 → h < 2 ^ 32 → h * ((w + 7) / 8) < 2 ^ 61
+plane-lt w h p q = let l : h ≤ 2 ^ 32 - 1 = omega arith in omega (arith, mul-le-mul-right ((w + 7) / 8) l)
 
 -- ---- row 2
 

@@ -2,9 +2,10 @@
 ghost use mathlib.Core.Path.{_≡_};
 ghost use mathlib.Core.Bool.{cond, false};
 ghost use mathlib.Core.List.{[], _∷_};
+ghost use Prim.Native.Nat.{_<_};
 ghost use lib.Dec.{eqb};
 ghost use Rattle.morphology.specs.Image.{planeBytes};
-ghost use Rattle.morphology.specs.Refusals.{isSide, notPlane, notPlaces, shortWork, row1, row2, row3, row4, row7, firstRefusal};
+ghost use Rattle.morphology.specs.Refusals.{isSide, notPlane, notPlaces, shortPlanes, shortWork, row1, row2, row3, row4, row7, firstRefusal};
 
 // The largest side, cut and n.
 pub const MAX_SIDE: u32 = 255;
@@ -62,11 +63,19 @@ pub fn not_places(w: u32, h: u32, m: &[u8]) -> bool
     m.len() != w as usize * h as usize
 }
 
+// Row 3: work is below k planes.
+pub fn short_planes(k: usize, w: u32, h: u32, work: &[u8]) -> bool
+    requires { ⌜ k < 8 ⌝ }
+    ensures { λ r. ⌜ r ≡ shortPlanes k w h (now (work .entry)) ⌝ }
+{
+    work.len() < k * plane_bytes(w, h)
+}
+
 // Row 3: work is below 3P bytes.
 pub fn short_work(w: u32, h: u32, work: &[u8]) -> bool
     ensures { λ r. ⌜ r ≡ shortWork w h (now (work .entry)) ⌝ }
 {
-    work.len() < 3 * plane_bytes(w, h)
+    short_planes(3, w, h, work)
 }
 
 // Row 4: an image has a 1 in its padding.

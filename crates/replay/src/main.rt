@@ -2,17 +2,19 @@
 //
 // A call is a header of 33 bytes, then the buffers x, y, z and c. Numbers are u32, lowest byte first.
 //
-//     0        the operation: 0 erode, 1 open, 2 decompose, 3 reconstruct, 4 minimise, 5 hit_or_miss, 6 thin, 7 encode
-//     1..17    w, h, a, b: a is the element (0 to 4, 7) or the mask's foreground (5);
-//              b is n (0, 1), the cut (3) or the mask's background (5); an operation passes over what it does not have
-//     17..33   the lengths of x, y and z in bytes and of c in counters, each at most 65,536; a counter has two bytes, lowest first
+//     0        the operation: 0 erode, 1 open, 2 decompose, 3 reconstruct, 4 minimise, 5 hit_or_miss, 6 thin, 7 encode,
+//              8 decode with a largest size, 9 decode of a blank
+//     1..17    w, h, a, b: a is the element (0 to 4, 7 to 9) or the mask's foreground (5);
+//              b is n (0, 1), the cut (3), the mask's background (5) or the largest size (8); an operation passes over what it does not have
+//     17..33   the lengths of x, y and z in bytes and of c in counters: x at most 1,048,576, each other at most 65,536; a counter has two bytes,
+//              lowest first
 //
 // x is only read; y, z and c are lent, and what an operation does not have stays as it is.
 //
 //     erode, open    x image, y out, z work           minimise       y labels, z work, c counters
 //     decompose      x image, y labels, z work        hit_or_miss    x image, y out
 //     reconstruct    x labels, y image, z work        thin           y image, z work
-//     encode         x image, y out, z work
+//     encode         x image, y out, z work           decode         x stream, y image, z work
 //
 // A reply is 14 bytes, then y, z and c as they are after the call.
 //
@@ -20,13 +22,15 @@
 //     1        how many values the answer has: none if it is refused; decompose and encode have 2, or 1 of a blank image, thin 3, the others 1
 //     2..14    three values, 0 where there is none
 //
-// It ends at the end of the input, at input that ends inside a call, at a read that fails, at an operation above 7 and at a length above 65,536.
+// It ends at the end of the input, at input that ends inside a call, at a read that fails, at an operation above 9 and at a length above these.
 use input::Input;
 ghost use mathlib.Core.Path.{_≡_};
 ghost use Prim.Native.Nat.{_*_};
 ghost use lib.ListN.{length};
 
-// The longest buffer.
+// The longest buffer that is read, and that is lent.
+const LONG: usize = 1048576;
+
 const SIZE: usize = 65536;
 
 // Calls in a run; more than any input has.
@@ -83,7 +87,7 @@ fn turn(x: &mut [u8], y: &mut [u8], z: &mut [u8], c: &mut [u8], counters: &mut [
     let ys = numbers::number(&header, 21) as usize;
     let zs = numbers::number(&header, 25) as usize;
     let cs = numbers::number(&header, 29) as usize;
-    if header[0] > 7 || xs > x.len() || ys > y.len() || zs > z.len() {
+    if header[0] > 9 || xs > x.len() || ys > y.len() || zs > z.len() {
         return false;
     }
     if cs > counters.len() || 2 * cs > c.len() {
@@ -100,7 +104,7 @@ fn turn(x: &mut [u8], y: &mut [u8], z: &mut [u8], c: &mut [u8], counters: &mut [
 }
 
 fn main() {
-    let mut x = [0u8; SIZE];
+    let mut x = [0u8; LONG];
     let mut y = [0u8; SIZE];
     let mut z = [0u8; SIZE];
     let mut c = [0u8; 2 * SIZE];

@@ -76,16 +76,16 @@ unfolding unmasked places kindsFrom
 frame-runs W H S M = kinds-runs S M 0 (tabulate (place W) 0 (W * H)) ∙ ap (runsOf 0) (map-row (place W) (λ z. kind (M z) (S z)) 0 (W * H))
 
 -- n pixels, and m after them
-pub row-parts : (f : ℕ → Kind) (i n m : ℕ) → tabulate f i (n + m) ≡ tabulate f i n ++ tabulate f (i + n) m
+pub row-parts : {A : Type 0} (f : ℕ → A) (i n m : ℕ) → tabulate f i (n + m) ≡ tabulate f i n ++ tabulate f (i + n) m
 unfolding tabulate
 row-parts f i zero m = let e : 0 + m ≡ m = omega arith in ap (tabulate f i) e ∙ ap (λ (j : ℕ). tabulate f j m) (sym (add-zero i))
-row-parts f i (suc n) m =
-    ap (tabulate f i) (suc-add n m) ∙ ap (λ (l : List Kind). f i ∷ l) (row-parts f (suc i) n m ∙ ap (λ (j : ℕ). tabulate f (suc i) n ++ tabulate f j m) (suc-add i n ∙ sym (add-suc i n)))
+row-parts {A} f i (suc n) m =
+    ap (tabulate f i) (suc-add n m) ∙ ap (λ (l : List A). f i ∷ l) (row-parts f (suc i) n m ∙ ap (λ (j : ℕ). tabulate f (suc i) n ++ tabulate f j m) (suc-add i n ∙ sym (add-suc i n)))
 
 -- equal pixel by pixel
-pub row-agree : (f g : ℕ → Kind) (i j n : ℕ) → ((t : ℕ) → t < n → f (i + t) ≡ g (j + t)) → tabulate f i n ≡ tabulate g j n
+pub row-agree : {A : Type 0} (f g : ℕ → A) (i j n : ℕ) → ((t : ℕ) → t < n → f (i + t) ≡ g (j + t)) → tabulate f i n ≡ tabulate g j n
 unfolding tabulate
 row-agree f g i j zero h = refl
-row-agree f g i j (suc n) h =
-    ap₂ (λ (a : Kind) (l : List Kind). a ∷ l) (ap f (sym (add-zero i)) ∙ h 0 (omega arith) ∙ ap g (add-zero j))
+row-agree {A} f g i j (suc n) h =
+    ap₂ (λ (a : A) (l : List A). a ∷ l) (ap f (sym (add-zero i)) ∙ h 0 (omega arith) ∙ ap g (add-zero j))
     (row-agree f g (suc i) (suc j) n (λ t l. ap f (suc-add i t ∙ sym (add-suc i t)) ∙ h (suc t) (omega arith) ∙ ap g (add-suc j t ∙ sym (suc-add j t))))

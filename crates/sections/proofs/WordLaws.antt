@@ -331,6 +331,12 @@ top-point left p l =
 pub top-below : (height left h : ℕ) → left < 2 ^ height → Top left h → h < height
 top-below height left h l t = lt-of-not-le (λ (g : height ≤ h). not-le-of-lt (lt-of-lt-of-le l (pow-mono g)) (t .1))
 
+-- no bit is above it
+pub top-one : (left h : ℕ) → Top left h → left / 2 ^ h ≡ 1
+top-one left h t =
+    let e : left ≡ 1 * 2 ^ h + (left - 2 ^ h) = omega (arith, t .1) in
+    ap (λ (x : ℕ). x / 2 ^ h) e ∙ high 1 h (omega (arith, t .1, t .2, pow-suc 2 h))
+
 -- what is left below it is less
 pub point-less : (left h : ℕ) → Top left h → left % power h < left
 point-less left h t = lt-of-lt-of-le (low-lt left h (t .0)) (t .1)
@@ -344,9 +350,7 @@ module _ (k height left rest h : ℕ) (small : left < 2 ^ height) (fits : rest <
   h-lt = top-below height left h small top
 
   one : left / 2 ^ h ≡ 1
-  one =
-      let e : left ≡ 1 * 2 ^ h + (left - 2 ^ h) = omega (arith, top .1) in
-      ap (λ (x : ℕ). x / 2 ^ h) e ∙ high 1 h (omega (arith, top .1, top .2, pow-suc 2 h))
+  one = top-one left h top
 
   -- the point itself is not counted
   even : rest / 2 ^ h % 2 ≡ 0

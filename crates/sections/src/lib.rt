@@ -28,7 +28,7 @@ fn load(s: &[u8], i: usize, n: usize) -> u64
 }
 
 // The same; eight bytes are one load.
-fn load_few(s: &[u8], i: usize, n: usize) -> u64
+pub fn load_few(s: &[u8], i: usize, n: usize) -> u64
     requires { ⌜ (i + n ≤ length (now s)) × (n ≤ 8) ⌝ }
     ensures { λ v. ⌜ Word (now (s .entry)) (8 * i) (8 * n) v ⌝ }
 {
@@ -110,7 +110,7 @@ fn walk_row(
 }
 
 // The foreground pixels of some bytes; none are counted where there is none.
-fn ink_of(s: &[u8]) -> u32
+pub fn ink_of(s: &[u8]) -> u32
     requires { ⌜ length (now s) < 2 ^ 20 ⌝ }
     ensures { λ n. ⌜ n ≡ onesOf (now (s .entry)) ⌝ }
 {
@@ -159,7 +159,7 @@ fn walk_block(
 }
 
 // How many rows a block has that begins with row y: four, or those that are left.
-fn block_rows(y: usize, h: usize) -> usize
+pub fn block_rows(y: usize, h: usize) -> usize
     requires { ⌜ y < h ⌝ }
     ensures { λ n. ⌜ (0 < n) × (y + n ≤ h) ⌝ }
 {

@@ -2,14 +2,19 @@
 //!
 //! A call: a byte for the operation, w, h, a, b, the lengths of x, y, z and c, then x, y, z
 //! and c. x is only read; y, z and c are lent. a is the element or a mask's foreground, b is
-//! n, the cut or the mask's background; what an operation does not have is passed over.
+//! n, the cut, the mask's background or the largest size beside a stream; what an operation does
+//! not have is passed over. Reading a code has two numbers: one with a largest size, one with the
+//! blank mark.
 //!
 //! A reply: a byte for the refusal, 0 if there is none, a byte for how many values the answer
 //! has, three values, then y, z and c as they are after the call.
 
 use reference::cases::{run, Call, OPERATIONS};
-use reference::Answer;
+use reference::{Answer, Mark};
 use std::io::{self, Read};
+
+/// The operations above those of `Call`: reading with the blank mark.
+pub const DECODE_BLANK: u8 = OPERATIONS.len() as u8;
 
 /// A call of the format.
 #[derive(Clone, Debug, Default, PartialEq)]
@@ -34,6 +39,10 @@ impl From<&Call> for Message {
                 ([*w, *h, *element, 0], image, labels, work, &[]),
             Call::Encode { w, h, element, image, out, work } =>
                 ([*w, *h, *element, 0], image, out, work, &[]),
+            Call::Decode { w, h, element, mark: Mark::Largest(size), stream, image, work } =>
+                ([*w, *h, *element, *size], stream, image, work, &[]),
+            Call::Decode { w, h, element, mark: Mark::Blank, stream, image, work } =>
+                ([*w, *h, *element, 0], stream, image, work, &[]),
             Call::Reconstruct { w, h, element, cut, labels, image, work } =>
                 ([*w, *h, *element, *cut], labels, image, work, &[]),
             Call::Minimise { w, h, element, labels, work, counters } =>
@@ -44,13 +53,23 @@ impl From<&Call> for Message {
                 ([*w, *h, 0, 0], &[], image, work, &[]),
         };
         Message {
-            operation: call.operation() as u8,
+            operation: number(call),
             numbers,
             x: x.to_vec(),
             y: y.to_vec(),
             z: z.to_vec(),
             c: c.to_vec(),
         }
+    }
+}
+
+/// The number of a call's operation.
+fn number(call: &Call) -> u8 {
+    match call {
+        Call::Decode {
+            mark: Mark::Blank, ..
+        } => DECODE_BLANK,
+        _ => call.operation() as u8,
     }
 }
 
@@ -167,12 +186,20 @@ fn take(from: &mut impl Read, len: usize) -> io::Result<Vec<u8>> {
     Ok(bytes)
 }
 
-/// A call in a line: the operation and its numbers.
+/// A call in a line: the operation and its numbers, and a stream that is read as far as a line
+/// has room.
 pub fn describe(call: &Call) -> String {
-    let message = Message::from(call);
-    let [w, h, a, b] = message.numbers;
-    let name = OPERATIONS[message.operation as usize];
-    format!("{name} with w {w}, h {h}, a {a}, b {b}")
+    let [w, h, a, b] = Message::from(call).numbers;
+    let numbers = format!("{} with w {w}, h {h}, a {a}", call.name());
+    let Call::Decode { mark, stream, .. } = call else {
+        return format!("{numbers}, b {b}");
+    };
+    let bytes = &stream[..stream.len().min(64)];
+    let more = if bytes.len() < stream.len() { ".." } else { "" };
+    format!(
+        "{numbers}, {mark:?}, {} bytes {bytes:02x?}{more}",
+        stream.len()
+    )
 }
 
 #[cfg(test)]
@@ -221,6 +248,61 @@ mod tests {
             refused.bytes()[..14],
             [4, 0, 0, 0, 0, 0, 0, 0, 0, 0, 0, 0, 0, 0]
         );
+    }
+
+    #[test]
+    fn a_code_that_is_read_byte_by_byte() {
+        let call = |mark| Call::Decode {
+            w: 4,
+            h: 1,
+            element: 0x04030201,
+            mark,
+            stream: vec![0x42, 0],
+            image: vec![7],
+            work: vec![9; 5],
+        };
+        #[rustfmt::skip]
+        let bytes = [
+            8,
+            4, 0, 0, 0, 1, 0, 0, 0, 1, 2, 3, 4, 0xfe, 1, 0, 0x80,
+            2, 0, 0, 0, 1, 0, 0, 0, 5, 0, 0, 0, 0, 0, 0, 0,
+            0x42, 0, 7, 9, 9, 9, 9, 9,
+        ];
+        let largest = call(Mark::Largest(0x8000_01fe));
+        assert_eq!(Message::from(&largest).bytes(), bytes);
+        let blank = Message::from(&call(Mark::Blank)).bytes();
+        assert_eq!((blank[0], &blank[13..17]), (9, &[0; 4][..]));
+        assert_eq!((&blank[1..13], &blank[17..]), (&bytes[1..13], &bytes[17..]));
+        let reply = Reply::new(&Answer::Area(3), &largest);
+        let answer = [0, 1, 3, 0, 0, 0, 0, 0, 0, 0, 0, 0, 0, 0];
+        assert_eq!(reply.bytes(), [&answer[..], &[7, 9, 9, 9, 9, 9]].concat());
+    }
+
+    /// A line names what a call is: the mark and the stream too.
+    #[test]
+    fn a_line_has_the_mark_and_the_stream() {
+        let call = |mark, bytes: usize| Call::Decode {
+            w: 4,
+            h: 1,
+            element: 12288,
+            mark,
+            stream: vec![0x42; bytes],
+            image: vec![],
+            work: vec![],
+        };
+        let line = "decode with w 4, h 1, a 12288, Largest(1), 2 bytes [42, 42]";
+        assert_eq!(describe(&call(Mark::Largest(1), 2)), line);
+        let line = "decode with w 4, h 1, a 12288, Blank, 0 bytes []";
+        assert_eq!(describe(&call(Mark::Blank, 0)), line);
+        let long = describe(&call(Mark::Blank, 65_536));
+        assert!(long.ends_with("42].."), "{long}");
+        let thin = Call::Thin {
+            w: 1,
+            h: 2,
+            image: vec![],
+            work: vec![],
+        };
+        assert_eq!(describe(&thin), "thin with w 1, h 2, a 0, b 0");
     }
 
     #[test]

@@ -4,13 +4,16 @@ use crate::format::{describe, Message, Reply};
 use crate::start;
 use reference::cases::{run, Call};
 use reference::Answer;
-use std::io::{stderr, BufReader, Read, Write};
+use std::io::{stderr, BufReader, BufWriter, Read, Write};
 use std::panic::resume_unwind;
 use std::process::{Child, ChildStdin, ChildStdout};
 use std::sync::atomic::{AtomicU64, Ordering};
 use std::sync::Mutex;
 use std::thread;
 use std::time::{Duration, Instant};
+
+/// How long replies gather in the pipe before they are read: a reader that waits is woken by each.
+const GATHERED: Duration = Duration::from_micros(300);
 
 /// A running `replay` and its two pipes.
 pub struct Replay {
@@ -52,17 +55,22 @@ impl Replay {
     pub fn all_agree(&mut self, calls: &[(String, Call)]) -> Vec<Answer> {
         let (stdin, stdout) = (&mut self.stdin, &mut self.stdout);
         let mut check = |(name, call): &(String, Call)| {
+            let (answer, after) = run(call);
+            if stdout.buffer().is_empty() {
+                thread::sleep(GATHERED);
+            }
             let reply = Reply::read(stdout, &Message::from(call))
                 .map_err(|error| format!("{name}: {}: {error}", describe(call)))?;
-            let (answer, after) = run(call);
             same(name, call, &reply, &Reply::new(&answer, &after)).map(|()| answer)
         };
         let answers = thread::scope(|scope| {
             // Where the program ends early, reading says so.
             scope.spawn(|| {
+                let mut stdin = BufWriter::with_capacity(1 << 16, stdin);
                 let bytes = |(_, call): &(String, Call)| Message::from(call).bytes();
                 let mut written = calls.iter().map(|call| stdin.write_all(&bytes(call)));
                 let _ = written.try_for_each(|written| written);
+                let _ = stdin.flush();
             });
             let answers = calls.iter().map(&mut check).collect::<Result<_, String>>();
             if answers.is_err() {
@@ -98,7 +106,7 @@ fn same(name: &str, call: &Call, reply: &Reply, wanted: &Reply) -> Result<(), St
     })
 }
 
-/// How many calls go to a process before another block is taken.
+/// How many calls of all kinds go to a process before another block is taken.
 const BLOCK: u64 = 200;
 /// How often progress is shown.
 const SHOWN: Duration = Duration::from_secs(5);
@@ -111,16 +119,27 @@ pub fn seeds_agree(
     call: impl Fn(u64) -> Call + Sync,
     seen: impl FnMut(&Call, &Answer) + Send,
 ) {
+    blocks_agree(BLOCK, first, count, call, seen);
+}
+
+/// The same in blocks of so many calls: many where calls are short.
+pub fn blocks_agree(
+    block: u64,
+    first: u64,
+    count: u64,
+    call: impl Fn(u64) -> Call + Sync,
+    seen: impl FnMut(&Call, &Answer) + Send,
+) {
     let (next, progress) = (AtomicU64::new(0), Mutex::new((seen, Progress::new(count))));
     let work = || {
         let _stop = Stop(&next);
         let mut replay = Replay::start();
         loop {
-            let from = next.fetch_add(BLOCK, Ordering::Relaxed);
+            let from = next.fetch_add(block, Ordering::Relaxed);
             if from >= count {
                 return replay.end();
             }
-            let seeds = first + from..first + (from + BLOCK).min(count);
+            let seeds = first + from..first + (from + block).min(count);
             let calls: Vec<_> = seeds.map(|s| (format!("seed {s}"), call(s))).collect();
             let answers = replay.all_agree(&calls);
             let mut progress = progress.lock().expect("no other has failed");

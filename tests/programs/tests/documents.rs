@@ -109,7 +109,11 @@ fn every_edit_that_is_named_is_there() {
 #[test]
 fn every_claim_that_is_named_is_declared() {
     let claims = read(&root().join("docs/CLAIMS.md"));
-    for (letter, file, at_least) in [("C", "Claims.antt", 12), ("D", "Codes.antt", 8)] {
+    for (letter, file, at_least) in [
+        ("C", "Claims.antt", 12),
+        ("D", "Codes.antt", 8),
+        ("E", "Readings.antt", 7),
+    ] {
         let specs = read(&root().join("crates/claims/specs").join(file));
         let mut named = 0;
         for (_, after) in claims

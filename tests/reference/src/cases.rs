@@ -3,22 +3,27 @@
 
 mod coded;
 mod damage;
+mod readings;
 mod refused;
 mod settled;
 mod sound;
+mod tickets;
 
 pub use coded::coded;
 pub use damage::{Damage, DAMAGES};
+pub use readings::readings;
 pub use refused::{accepted, damaged, Damaged};
 pub use settled::{settled, shortened_at_a_cut, Settled};
 pub use sound::{cut_or_n, element, element_of, image, image_of, labels, labels_of, mask, side};
 pub use sound::{output, output_of, OutputKind, OUTPUT_KINDS};
 pub use sound::{ImageKind, LabelsKind, IMAGE_KINDS, LABELS_KINDS};
+pub use tickets::{ticket, ticket_of, ticket_of_image, ticket_of_labels};
+pub use tickets::{TicketKind, TICKET_KINDS};
 
 use crate::element::ORIGIN;
 use crate::frame::{Frame, Set};
 use crate::rng::Rng;
-use crate::{code, skeleton, Answer, SQUARE};
+use crate::{code, skeleton, Answer, Mark, PLANES, READER_PLANES, SQUARE};
 use damage::damage;
 
 /// A call: the numbers, what is read, what is written, the work.
@@ -89,6 +94,15 @@ pub enum Call {
         out: Vec<u8>,
         work: Vec<u8>,
     },
+    Decode {
+        w: u32,
+        h: u32,
+        element: u32,
+        mark: Mark,
+        stream: Vec<u8>,
+        image: Vec<u8>,
+        work: Vec<u8>,
+    },
 }
 
 /// The answer to a call, and the same call with every lent buffer as it is afterwards.
@@ -112,6 +126,8 @@ pub fn run(call: &Call) -> (Answer, Call) {
             crate::thin(*w, *h, image, work),
         Call::Encode { w, h, element, image, out, work } =>
             crate::encode(*w, *h, *element, image, out, work),
+        Call::Decode { w, h, element, mark, stream, image, work } =>
+            crate::decode(*w, *h, *element, *mark, stream, image, work),
     };
     (answer, after)
 }
@@ -130,13 +146,17 @@ pub struct Parts<'a> {
     pub written: Option<&'a mut Vec<u8>>,
     /// The output of a code, of any length.
     pub stream: Option<&'a mut Vec<u8>>,
+    /// The mark and the stream of a code that is read.
+    pub ticket: Option<(&'a mut Mark, &'a mut Vec<u8>)>,
     pub labels: Option<&'a mut Vec<u8>>,
     pub work: Option<&'a mut Vec<u8>>,
+    /// How many times P bytes the work has at least.
+    pub planes: usize,
     pub counters: Option<&'a mut Vec<u16>>,
 }
 
 /// The operations, in the order of `Call`.
-pub const OPERATIONS: [&str; 8] = [
+pub const OPERATIONS: [&str; 9] = [
     "erode",
     "open",
     "decompose",
@@ -145,6 +165,7 @@ pub const OPERATIONS: [&str; 8] = [
     "hit_or_miss",
     "thin",
     "encode",
+    "decode",
 ];
 
 impl Call {
@@ -159,6 +180,7 @@ impl Call {
             Call::HitOrMiss { .. } => 5,
             Call::Thin { .. } => 6,
             Call::Encode { .. } => 7,
+            Call::Decode { .. } => 8,
         }
     }
 
@@ -176,8 +198,10 @@ impl Call {
             read: None,
             written: None,
             stream: None,
+            ticket: None,
             labels: None,
             work: None,
+            planes: PLANES,
             counters: None,
         };
         #[rustfmt::skip]
@@ -209,14 +233,18 @@ impl Call {
                 element: Some(element),
                 read: Some(image), stream: Some(out), work: Some(work), ..none(w, h)
             },
+            Call::Decode { w, h, element, mark, stream, image, work } => Parts {
+                element: Some(element), ticket: Some((mark, stream)),
+                written: Some(image), work: Some(work), planes: READER_PLANES, ..none(w, h)
+            },
         };
         parts
     }
 }
 
 /// The call of a seed: sound, or with one or two of its arguments damaged. Labels may be wild,
-/// cuts too large and outputs of a code too short in any case. What is only written, and the
-/// work, hold anything.
+/// cuts too large, outputs of a code too short and codes that are read wrong in any case. What is
+/// only written, and the work, hold anything.
 pub fn call(seed: u64) -> Call {
     let rng = &mut Rng::new(seed);
     let (w, h, operation) = (side(rng), side(rng), rng.below(OPERATIONS.len()));
@@ -239,10 +267,15 @@ fn drawn_call(rng: &mut Rng, operation: usize, w: u32, h: u32) -> Call {
 }
 
 /// A call of an operation on a frame, with lengths, padding, element and mask that are sound;
-/// the output of a code has any length.
+/// the output of a code has any length, and a code that is read is of any kind.
 pub fn sound_call(rng: &mut Rng, operation: usize, w: u32, h: u32) -> Call {
-    let frame = Frame::new(w, h).expect("sides from 1 to 255");
     let element = element(rng);
+    sound_call_by(rng, operation, w, h, element)
+}
+
+/// The same by an element, where the operation has one.
+pub fn sound_call_by(rng: &mut Rng, operation: usize, w: u32, h: u32, element: u32) -> Call {
+    let frame = Frame::new(w, h).expect("sides from 1 to 255");
     let image = image(rng, w, h);
     let labels = match operation {
         0 | 1 => skeleton::decompose(&frame.unpack(&image), element),
@@ -251,12 +284,21 @@ pub fn sound_call(rng: &mut Rng, operation: usize, w: u32, h: u32) -> Call {
     };
     let written = rng.bytes(image.len());
     let spare = rng.pick(&[0, 0, 1, 9]);
-    let work = rng.bytes(3 * image.len() + spare);
+    let planes = if operation == 8 {
+        READER_PLANES
+    } else {
+        PLANES
+    };
+    let work = rng.bytes(planes * image.len() + spare);
     let (n, (fg, bg)) = (cut_or_n(rng, &labels), mask(rng));
     let counters = (0..frame.pixels()).map(|_| rng.number() as u16).collect();
-    let stream = match operation {
-        7 => output(rng, stream_bytes(&frame.unpack(&image), element)),
-        _ => vec![],
+    let (mark, stream) = match operation {
+        7 => {
+            let bytes = stream_bytes(&frame.unpack(&image), element);
+            (Mark::Blank, output(rng, bytes))
+        }
+        8 => ticket(rng, w, h, element),
+        _ => (Mark::Blank, vec![]),
     };
     #[rustfmt::skip]
     let call = match operation {
@@ -267,7 +309,8 @@ pub fn sound_call(rng: &mut Rng, operation: usize, w: u32, h: u32) -> Call {
         4 => Call::Minimise { w, h, element, labels, work, counters },
         5 => Call::HitOrMiss { w, h, fg, bg, image, out: written },
         6 => Call::Thin { w, h, image, work },
-        _ => Call::Encode { w, h, element, image, out: stream, work },
+        7 => Call::Encode { w, h, element, image, out: stream, work },
+        _ => Call::Decode { w, h, element, mark, stream, image: written, work },
     };
     call
 }

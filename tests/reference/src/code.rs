@@ -19,19 +19,18 @@ pub struct Code {
 
 /// The code of an image; a blank one has none.
 pub fn encode(x: &Set, element: u32) -> Option<Code> {
-    let labels = decompose(x, element);
+    encode_labels(x.frame, element, &decompose(x, element))
+}
+
+/// The code of labels of any kind; without a point they have none. A point that a larger one
+/// covers has no run, and is lost.
+pub fn encode_labels(frame: Frame, element: u32, labels: &[u8]) -> Option<Code> {
     let largest = labels.iter().copied().max().unwrap_or(0) as usize;
     let max_size = largest.checked_sub(1)?;
-    let folds = folds(element, x.frame, max_size);
+    let folds = folds(element, frame, max_size);
     let sizes = (0..=max_size).rev();
     let symbols: Vec<u8> = sizes
-        .flat_map(|size| {
-            section(&runs(
-                size,
-                &labels,
-                &covered(x.frame, &folds, size, &labels),
-            ))
-        })
+        .flat_map(|size| section(&runs(size, labels, &covered(frame, &folds, size, labels))))
         .collect();
     Some(Code {
         max_size,
@@ -39,13 +38,15 @@ pub fn encode(x: &Set, element: u32) -> Option<Code> {
     })
 }
 
-/// Whether each place is covered by points of sizes above this one, grown as far as it.
-fn covered(frame: Frame, folds: &[Fold], size: usize, labels: &[u8]) -> Vec<bool> {
+/// Whether each place is covered by points of sizes above this one, grown as far as it. One that
+/// leaves the frame so covers nothing: no image has it.
+pub fn covered(frame: Frame, folds: &[Fold], size: usize, labels: &[u8]) -> Vec<bool> {
     let mut covered = vec![false; frame.pixels()];
     for ((x, y), &label) in frame.points().zip(labels) {
         let larger_by = (label as usize).saturating_sub(size + 1);
-        if larger_by > 0 {
-            for places in folds[larger_by].places(frame, x, y) {
+        let fold = folds.get(larger_by).filter(|_| larger_by > 0);
+        if let Some(fold) = fold.filter(|fold| fold.fits(frame, x, y)) {
+            for places in fold.places(frame, x, y) {
                 covered[places].fill(true);
             }
         }
@@ -68,10 +69,10 @@ fn runs(size: usize, labels: &[u8], covered: &[bool]) -> Vec<usize> {
 }
 
 /// The symbol that parts runs. A digit d is the symbol d+1.
-const COMMA: u8 = 0;
+pub const COMMA: u8 = 0;
 
 /// The symbols of a size: commas part the runs, and two end it.
-fn section(runs: &[usize]) -> Vec<u8> {
+pub fn section(runs: &[usize]) -> Vec<u8> {
     let numerals: Vec<Vec<u8>> = runs.iter().map(|&run| numeral(run)).collect();
     let mut symbols = numerals.join(&COMMA);
     symbols.extend([COMMA, COMMA]);
@@ -87,7 +88,7 @@ fn numeral(run: usize) -> Vec<u8> {
 }
 
 /// Symbols of two bits fill bytes from the top; the last byte is padded with 0.
-fn pack(symbols: &[u8]) -> Vec<u8> {
+pub fn pack(symbols: &[u8]) -> Vec<u8> {
     let at = |four: &[u8], i: usize| four.get(i).copied().unwrap_or(0);
     let byte = |four: &[u8]| (0..4).fold(0, |byte, i| byte << 2 | at(four, i));
     symbols.chunks(4).map(byte).collect()

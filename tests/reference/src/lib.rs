@@ -1,10 +1,11 @@
-//! An independent second program for the rules of document 01 and the codes of 02. It works on
-//! unpacked sets of points and on distances, not on packed planes that are eroded and dilated
-//! step by step, and it is the judge in comparisons: for any arguments and any lengths it says
-//! the answer and every lent byte afterwards.
+//! An independent second program for the rules of document 01 and the codes of 02, written and
+//! read. It works on unpacked sets of points and on distances, not on packed planes that are
+//! eroded and dilated step by step, and it is the judge in comparisons: for any arguments and any
+//! lengths it says the answer and every lent byte afterwards.
 
 pub mod cases;
 mod code;
+mod decode;
 pub mod drawn;
 mod element;
 mod frame;
@@ -13,6 +14,7 @@ pub mod rng;
 mod skeleton;
 mod thinning;
 
+pub use decode::Mark;
 pub use element::{LEFT, PLUS, RIGHT, ROUND, SQUARE};
 pub use thinning::GOLAY_L;
 
@@ -23,7 +25,7 @@ use refusal::{accept, Arguments};
 #[derive(Clone, Debug, PartialEq)]
 pub enum Answer {
     /// The number of the refusal. No lent byte has changed; but 8 leaves the first 3P bytes of
-    /// work 0.
+    /// work 0, and 9 to 11 the first 5P.
     Refused(u8),
     /// The foreground points of the image written.
     Area(u32),
@@ -51,9 +53,15 @@ fn write(frame: Frame, set: &Set, image: &mut [u8]) -> Answer {
     Area(set.area())
 }
 
-/// Leaves the work buffer as after every success and after refusal 8: 0 in the first 3P bytes.
-fn clear(frame: Frame, work: &mut [u8]) {
-    work[..3 * frame.plane_bytes()].fill(0);
+/// How many times P bytes of work an operation needs, and leaves 0; the reader of codes needs
+/// more.
+const PLANES: usize = 3;
+const READER_PLANES: usize = 5;
+
+/// Leaves the work buffer as after every success and after refusals 8 to 11: 0 in so many times
+/// P bytes.
+fn clear(frame: Frame, planes: usize, work: &mut [u8]) {
+    work[..planes * frame.plane_bytes()].fill(0);
 }
 
 /// The number of points in labels.
@@ -103,13 +111,13 @@ fn erode_or_open(
         h,
         element: Some(element),
         images: &[image.len(), out.len()],
-        work: Some(work.len()),
+        work: Some((work.len(), PLANES)),
         read: Some(image),
         cut_or_n: Some(n),
         ..Arguments::default()
     };
     accept(&arguments).map_or_else(Refused, |frame| {
-        clear(frame, work);
+        clear(frame, PLANES, work);
         let set = operation(&frame.unpack(image), element, n as usize);
         write(frame, &set, out)
     })
@@ -130,12 +138,12 @@ pub fn decompose(
         element: Some(element),
         images: &[image.len()],
         labels: Some(labels.len()),
-        work: Some(work.len()),
+        work: Some((work.len(), PLANES)),
         read: Some(image),
         ..Arguments::default()
     };
     accept(&arguments).map_or_else(Refused, |frame| {
-        clear(frame, work);
+        clear(frame, PLANES, work);
         labels.copy_from_slice(&skeleton::decompose(&frame.unpack(image), element));
         match labels.iter().max() {
             Some(&label) if label > 0 => Skeleton {
@@ -163,13 +171,13 @@ pub fn reconstruct(
         element: Some(element),
         images: &[image.len()],
         labels: Some(labels.len()),
-        work: Some(work.len()),
+        work: Some((work.len(), PLANES)),
         kept: Some((labels, cut)),
         cut_or_n: Some(cut),
         ..Arguments::default()
     };
     accept(&arguments).map_or_else(Refused, |frame| {
-        clear(frame, work);
+        clear(frame, PLANES, work);
         let set = skeleton::reconstruct(frame, element, cut, labels);
         write(frame, &set, image)
     })
@@ -189,13 +197,13 @@ pub fn minimise(
         h,
         element: Some(element),
         labels: Some(labels.len()),
-        work: Some(work.len()),
+        work: Some((work.len(), PLANES)),
         counters: Some(counters.len()),
         kept: Some((&*labels, 0)),
         ..Arguments::default()
     };
     accept(&arguments).map_or_else(Refused, |frame| {
-        clear(frame, work);
+        clear(frame, PLANES, work);
         counters.fill(0);
         labels.copy_from_slice(&skeleton::minimise(frame, element, labels));
         Minimal(points(labels))
@@ -224,12 +232,12 @@ pub fn thin(w: u32, h: u32, image: &mut [u8], work: &mut [u8]) -> Answer {
         w,
         h,
         images: &[image.len()],
-        work: Some(work.len()),
+        work: Some((work.len(), PLANES)),
         read: Some(image),
         ..Arguments::default()
     };
     accept(&arguments).map_or_else(Refused, |frame| {
-        clear(frame, work);
+        clear(frame, PLANES, work);
         let before = frame.unpack(image);
         let (after, passes) = thinning::thin(before.clone());
         write(frame, &after, image);
@@ -256,12 +264,12 @@ pub fn encode(
         h,
         element: Some(element),
         images: &[image.len()],
-        work: Some(work.len()),
+        work: Some((work.len(), PLANES)),
         read: Some(image),
         ..Arguments::default()
     };
     accept(&arguments).map_or_else(Refused, |frame| {
-        clear(frame, work);
+        clear(frame, PLANES, work);
         let Some(code) = code::encode(&frame.unpack(image), element) else {
             return Blank;
         };
@@ -273,6 +281,32 @@ pub fn encode(
             bytes: code.stream.len() as u32,
             max_size: code.max_size as u32,
         }
+    })
+}
+
+/// The image of a code ("reading the coded ticket"), from its mark and its stream, which has any
+/// length. Rows 9 to 11 say what is wrong with a code; they leave the image as it was.
+pub fn decode(
+    w: u32,
+    h: u32,
+    element: u32,
+    mark: Mark,
+    stream: &[u8],
+    image: &mut [u8],
+    work: &mut [u8],
+) -> Answer {
+    let arguments = Arguments {
+        w,
+        h,
+        element: Some(element),
+        images: &[image.len()],
+        work: Some((work.len(), READER_PLANES)),
+        ..Arguments::default()
+    };
+    accept(&arguments).map_or_else(Refused, |frame| {
+        clear(frame, READER_PLANES, work);
+        let read = decode::decode(frame, element, mark, stream);
+        read.map_or_else(Refused, |set| write(frame, &set, image))
     })
 }
 

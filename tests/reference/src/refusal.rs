@@ -1,5 +1,6 @@
 //! The table of refusals of 01. A call names the arguments that it has; the first row that
-//! applies is the answer. Row 8 of 02 asks for the stream, and is tested where that is written.
+//! applies is the answer. Rows 8 to 11 of 02 ask for a stream, and are tested where that is
+//! written or read.
 
 use crate::element::ORIGIN;
 use crate::frame::Frame;
@@ -12,11 +13,12 @@ pub struct Arguments<'a> {
     pub w: u32,
     pub h: u32,
     pub element: Option<u32>,
-    /// The lengths of all lent images, read or written. The output of a code is none.
+    /// The lengths of all lent images, read or written. A stream is none.
     pub images: &'a [usize],
     /// The lengths of the other lent buffers.
     pub labels: Option<usize>,
-    pub work: Option<usize>,
+    /// The length, and how many times P it must be at least.
+    pub work: Option<(usize, usize)>,
     pub counters: Option<usize>,
     /// The image that is read.
     pub read: Option<&'a [u8]>,
@@ -68,12 +70,13 @@ fn bad_element(a: &Arguments) -> bool {
         .is_some_and(|e| e >> 25 != 0 || e & ORIGIN == 0 || e.count_ones() < 2)
 }
 
-/// Row 3: a lent image, labels or counters of another length, or work below 3P.
+/// Row 3: a lent image, labels or counters of another length, or work below 3P; for the reader
+/// of codes below 5P.
 fn bad_length(a: &Arguments) -> bool {
     let (bytes, pixels) = (a.frame().plane_bytes(), a.frame().pixels());
     a.images.iter().any(|&len| len != bytes)
         || a.labels.is_some_and(|len| len != pixels)
-        || a.work.is_some_and(|len| len < 3 * bytes)
+        || a.work.is_some_and(|(len, planes)| len < planes * bytes)
         || a.counters.is_some_and(|len| len != pixels)
 }
 

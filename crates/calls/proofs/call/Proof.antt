@@ -3,7 +3,7 @@ use mathlib.Core.List.{[], _∷_}
 use Prim.Native.Nat.{zero-le}
 use denote.Ref.{now}
 use Rattle.calls.specs.Called.{called}
-use Rattle.calls.proofs.CallLaws.{called-as, called-encode, decomposed-kept, encoded-kept, minimised-kept, owed, owed-beside, past, thinned-kept, written-kept}
+use Rattle.calls.proofs.CallLaws.{called-as, called-blank, decomposed-kept, encoded-kept, minimised-kept, owed, owed-beside, past, thinned-kept, written-kept}
 use borrow.Author.Needs.{needs}
 use Rattle.calls.proofs.call.Statement.{statement}
 use Rattle.calls.proofs.call.Tie as tie
@@ -55,6 +55,18 @@ encode-requires c κs = search needs
 
 of-encoded-requires : tie.Need-of-encoded-requires
 of-encoded-requires c κs = search needs
+
+decode-requires : tie.Need-decode-requires
+decode-requires c κs = search needs
+
+of-written-requires-5 : tie.Need-of-written-requires-5
+of-written-requires-5 c κs = search needs
+
+decode-requires-2 : tie.Need-decode-requires-2
+decode-requires-2 c κs = search needs
+
+of-written-requires-6 : tie.Need-of-written-requires-6
+of-written-requires-6 c κs = search needs
 
 same-length : tie.Need-same-length
 same-length c = search needs
@@ -170,16 +182,45 @@ same-length-16 c = search needs
 returns-8 : tie.Need-returns-8
 unfolding called
 returns-8 c =
-    let m = c .before .before .before .before .before .before .before .before in
+    let o = c .before .before .before .before .before in
+    let m = o .before .before .before in
+    let a = m .before .before .before .before .before .args in
+    owed-beside (_ ∷ _ ∷ []) (_ ∷ []) (encoded-kept (o .encode .result)) (c .of-encoded .ensures) (o .encode .ensures)
+    (called-as (a .w) (a .h) (a .a) (a .b) (now (a .x)) (now (a .y)) (now (a .z)) (now (a .c)) 7 (m .match .keys8))
+
+same-length-17 : tie.Need-same-length-17
+same-length-17 c = search needs
+
+same-length-18 : tie.Need-same-length-18
+same-length-18 c = search needs
+
+returns-9 : tie.Need-returns-9
+unfolding called
+returns-9 c =
+    let o = c .before .before .before .before .before in
+    let m = o .before .before .before in
+    let a = m .before .before .before .before .before .args in
+    owed-beside (_ ∷ _ ∷ []) (_ ∷ []) (written-kept (o .decode .result)) (c .of-written5 .ensures) (o .decode .ensures)
+    (called-as (a .w) (a .h) (a .a) (a .b) (now (a .x)) (now (a .y)) (now (a .z)) (now (a .c)) 8 (m .match .keys9))
+
+same-length-19 : tie.Need-same-length-19
+same-length-19 c = search needs
+
+same-length-20 : tie.Need-same-length-20
+same-length-20 c = search needs
+
+returns-10 : tie.Need-returns-10
+unfolding called
+returns-10 c =
+    let o = c .before .before .before .before .before in
+    let m = o .before .before .before in
     let a = m .before .before .before .before .before .args in
     let r = m .match .rest in
     let n = a .op in
-    let above =
-    past n 6 (past n 5 (past n 4 (past n 3 (past n 2 (past n 1 (past n 0 zero-le (r .0 .0 .0 .0 .0 .0 .1)) (r .0 .0 .0 .0 .0 .1)) (r .0 .0 .0 .0 .1))
-    (r .0 .0 .0 .1)) (r .0 .0 .1)) (r .0 .1)) (r .1) in
-    let h = called-encode (a .w) (a .h) (a .a) (a .b) (now (a .x)) (now (a .y)) (now (a .z)) (now (a .c)) (a .op) above in
-    let o = c .before .before .before .before .before in
-    owed-beside (_ ∷ _ ∷ []) (_ ∷ []) (encoded-kept (o .encode .result)) (c .of-encoded .ensures) (o .encode .ensures) h
+    let four = past n 3 (past n 2 (past n 1 (past n 0 zero-le (r .0 .0 .0 .0 .0 .0 .0 .0 .1)) (r .0 .0 .0 .0 .0 .0 .0 .1)) (r .0 .0 .0 .0 .0 .0 .1)) (r .0 .0 .0 .0 .0 .1) in
+    let above = past n 8 (past n 7 (past n 6 (past n 5 (past n 4 four (r .0 .0 .0 .0 .1)) (r .0 .0 .0 .1)) (r .0 .0 .1)) (r .0 .1)) (r .1) in
+    let h = called-blank (a .w) (a .h) (a .a) (a .b) (now (a .x)) (now (a .y)) (now (a .z)) (now (a .c)) (a .op) above in
+    owed-beside (_ ∷ _ ∷ []) (_ ∷ []) (written-kept (o .decode2 .result)) (c .of-written6 .ensures) (o .decode2 .ensures) h
 
 pub call-spec : {M : Type 1} → statement M
 call-spec =
@@ -201,6 +242,10 @@ call-spec =
     of-thinned-requires
     encode-requires
     of-encoded-requires
+    decode-requires
+    of-written-requires-5
+    decode-requires-2
+    of-written-requires-6
     same-length
     same-length-2
     returns
@@ -224,4 +269,10 @@ call-spec =
     returns-7
     same-length-15
     same-length-16
-    returns-8)
+    returns-8
+    same-length-17
+    same-length-18
+    returns-9
+    same-length-19
+    same-length-20
+    returns-10)

@@ -9,7 +9,7 @@ use Rattle.replay.proofs.main.Tie as tie
 
 abbrev Inv-loop : tie.InvT-loop
 Inv-loop x₀ y₀ z₀ c₀ counters₀ made₀ x y z c counters made =
-    (made ≤ 2 ^ 63) × (length x ≡ 65536) × (length y ≡ 65536) × (length z ≡ 65536) × (length c ≡ 131072) × (length counters ≡ 65536)
+    (made ≤ 2 ^ 63) × (length x ≡ 1048576) × (length y ≡ 65536) × (length z ≡ 65536) × (length c ≡ 131072) × (length counters ≡ 65536)
 
 abbrev μ-loop : tie.MeasureT-loop
 μ-loop x₀ y₀ z₀ c₀ counters₀ made₀ x y z c counters made = 2 ^ 63 - made
@@ -20,7 +20,7 @@ to-at-loop c = c .before .before .before
 loop-holds : tie.Need-loop-holds Inv-loop μ-loop
 loop-holds c = (
   omega arith,
-  length-replicate {A = ℕ} 65536 0,
+  length-replicate {A = ℕ} 1048576 0,
   length-replicate {A = ℕ} 65536 0,
   length-replicate {A = ℕ} 65536 0,
   length-replicate {A = ℕ} 131072 0,

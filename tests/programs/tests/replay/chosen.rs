@@ -1,12 +1,13 @@
 //! Calls of chosen kinds: every kind of image, of labels and of outputs, every named element,
-//! every cut that matters, every mask of the house set.
+//! every cut that matters, every mask of the house set, the tickets of images and of labels.
 
 use programs::replay::Replay;
 use reference::cases::{element, image_of, labels_of, mask, side, Call};
-use reference::cases::{output_of, OutputKind};
+use reference::cases::{output_of, ticket_of_image, ticket_of_labels, OutputKind};
 use reference::cases::{LabelsKind, IMAGE_KINDS, LABELS_KINDS};
 use reference::rng::Rng;
 use reference::Answer::{self, Area, Refused};
+use reference::Mark;
 use reference::{GOLAY_L, LEFT, PLUS, RIGHT, ROUND, SQUARE};
 use std::collections::BTreeMap;
 
@@ -103,6 +104,35 @@ impl Block {
             let work = self.work();
             self.add(name, Call::Encode { w, h, element, image, out, work });
         }
+    }
+
+    /// A ticket, read.
+    #[rustfmt::skip]
+    fn decode(&mut self, kind: &'static str, (mark, stream): (Mark, Vec<u8>)) {
+        let (w, h, element) = (self.w, self.h, self.element);
+        let plane = (w.div_ceil(8) * h) as usize;
+        let spare = self.rng.below(3);
+        let (image, work) = (self.rng.bytes(plane), self.rng.bytes(5 * plane + spare));
+        self.add(kind, Call::Decode { w, h, element, mark, stream, image, work });
+    }
+
+    /// The ticket of an image, with a byte more or less, and beside other marks.
+    fn decode_about(&mut self, image: &[u8]) {
+        let (mark, stream) = ticket_of_image(self.w, self.h, self.element, image);
+        let mut longer = stream.clone();
+        longer.push(self.rng.pick(&[0, 0, 1, 255]));
+        self.decode("a byte more", (mark, longer));
+        if let Some((_, shorter)) = stream.split_last() {
+            self.decode("a byte less", (mark, shorter.to_vec()));
+            self.decode("marked blank", (Mark::Blank, stream.clone()));
+        }
+        let above = match mark {
+            Mark::Blank => 0,
+            Mark::Largest(largest) => largest + 1,
+        };
+        self.decode("largest + 1", (Mark::Largest(above), stream.clone()));
+        self.decode("largest 255", (Mark::Largest(255), stream.clone()));
+        self.decode("own", (mark, stream));
     }
 
     /// Hit-or-miss by the house set and two other masks; thinning.
@@ -205,6 +235,9 @@ fn every_kind_of_image() {
             block.minimise("", &minimal);
             block.hit_or_miss_and_thin(&image);
             block.encode(&image);
+            block.decode_about(&image);
+            let (w, h, element) = (block.w, block.h, block.element);
+            block.decode("minimal", ticket_of_labels(w, h, element, &minimal));
             agree(&mut replay, &mut met, &block);
         }
         let least = if kind == IMAGE_KINDS[0] { 0 } else { 10 };
@@ -240,10 +273,22 @@ fn every_kind_of_image() {
     for (_, output) in OUTPUTS {
         reached(&met, "encode", output, "blank");
     }
+    for ticket in ["own", "minimal"] {
+        reached(&met, "decode", ticket, "ink");
+        reached(&met, "decode", ticket, "blank");
+    }
+    assert!(!met.contains_key(&("decode", "own", "refused")));
+    reached(&met, "decode", "minimal", "refused");
+    for ticket in ["a byte more", "a byte less", "marked blank", "largest 255"] {
+        reached(&met, "decode", ticket, "refused");
+        assert!(!met.contains_key(&("decode", ticket, "ink")));
+        assert!(!met.contains_key(&("decode", ticket, "blank")));
+    }
+    reached(&met, "decode", "largest + 1", "refused");
     replay.end();
 }
 
-/// Labels of every kind at every cut.
+/// Labels of every kind at every cut, and their tickets.
 #[test]
 fn every_kind_of_labels() {
     let mut replay = Replay::start();
@@ -257,8 +302,13 @@ fn every_kind_of_labels() {
                 block.reconstruct(cut, n, &labels);
             }
             block.minimise("", &labels);
+            block.decode("", ticket_of_labels(w, h, element, &labels));
             agree(&mut replay, &mut met, &block);
         }
+        // Of the labels of an image alone every ticket is read.
+        let skeleton = kind == LabelsKind::Skeleton;
+        assert_eq!(met.contains_key(&("decode", "", "refused")), !skeleton);
+        reached(&met, "decode", "", if skeleton { "ink" } else { "refused" });
         let refused = matches!(kind, LabelsKind::Beyond | LabelsKind::Any);
         let answered = if refused { "refused" } else { "ink" };
         for cut in ["0", "largest"] {

@@ -3,6 +3,7 @@
 
 mod chosen;
 mod codes;
+mod readings;
 mod refusals;
 mod seeded;
 mod settled;

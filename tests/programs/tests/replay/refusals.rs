@@ -1,5 +1,5 @@
 //! Every row of the table, alone, in all pairs and all at once, in every operation: the lowest
-//! is answered and no lent byte has changed, but that row 8 alone clears work.
+//! is answered and no lent byte has changed, but that rows 8 to 11 clear work.
 
 use programs::format::{Message, Reply};
 use programs::replay::Replay;

@@ -6,7 +6,7 @@
 
 use programs::replay::seeds_agree;
 use reference::cases::{call, OPERATIONS};
-use reference::Answer;
+use reference::{Answer, Mark};
 use std::collections::BTreeMap;
 
 const CALLS: u64 = 100_000;
@@ -34,11 +34,14 @@ fn seeded_calls() {
             if let Some(&mut n) = p.cut_or_n {
                 count(operation, "cut or n", n);
             }
+            if let Some((Mark::Largest(largest), _)) = p.ticket {
+                count(operation, "largest size", *largest);
+            }
             if let Answer::Refused(row) = answer {
                 return count(operation, "row", *row as u32);
             }
             count(operation, "row", 0);
-            if let Answer::Blank = answer {
+            if let Answer::Blank | Answer::Area(0) = answer {
                 count(operation, "blank", 0);
             }
             if let (Answer::Coded { bytes, .. }, Some(out)) = (answer, p.stream) {
@@ -66,7 +69,7 @@ fn seeded_calls() {
         let name = OPERATIONS[operation];
         assert!(times >= least, "{name}: {what} {value}: {times} times");
     };
-    let rows: [&[u32]; 8] = [
+    let rows: [&[u32]; 9] = [
         &[0, 1, 2, 3, 4, 7],
         &[0, 1, 2, 3, 4, 7],
         &[0, 1, 2, 3, 4],
@@ -75,6 +78,7 @@ fn seeded_calls() {
         &[0, 1, 3, 4, 6],
         &[0, 1, 3, 4],
         &[0, 1, 2, 3, 4, 8],
+        &[0, 1, 2, 3, 9, 10, 11],
     ];
     for (operation, rows) in rows.iter().enumerate() {
         rows.iter()
@@ -84,7 +88,7 @@ fn seeded_calls() {
             reached(operation, "height", side, 3);
         }
     }
-    for operation in [0, 1, 2, 3, 4, 7] {
+    for operation in [0, 1, 2, 3, 4, 7, 8] {
         (2..=25).for_each(|points| reached(operation, "points", points, 5));
         for element in [473536, 145536, 15728622, 12288, 6144] {
             reached(operation, "element", element, 50);
@@ -92,6 +96,10 @@ fn seeded_calls() {
     }
     for what in ["blank", "exactly enough", "one byte more", "more"] {
         reached(7, what, 0, 50);
+    }
+    reached(8, "blank", 0, 50);
+    for largest in (0..10).chain([254, 255, 256, u32::MAX]) {
+        reached(8, "largest size", largest, 20);
     }
     for operation in [0, 1, 3] {
         for n in [0, 1, 255, 256, u32::MAX] {

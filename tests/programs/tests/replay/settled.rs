@@ -1,11 +1,11 @@
-//! The cases A to M of 01 and the codes of 02, from the tables that the second program is held
-//! to, and what a cut makes of shortened labels.
+//! The cases A to M of 01 and the codes of 02, written and read, from the tables that the second
+//! program is held to, and what a cut makes of shortened labels.
 
 use programs::format::{Message, Reply};
 use programs::replay::Replay;
-use reference::cases::{coded, settled, shortened_at_a_cut, Call};
+use reference::cases::{coded, readings, settled, shortened_at_a_cut, Call};
 use reference::drawn::{draw, image};
-use std::collections::BTreeSet;
+use std::collections::{BTreeMap, BTreeSet};
 
 /// Each call of a case replies what the document says.
 #[test]
@@ -36,6 +36,31 @@ fn codes_of_the_cases_and_of_the_sample() {
     }
     assert_eq!(cases, "ABCDEGHIS".chars().collect());
     assert!(refused >= 4, "{refused}");
+    replay.end();
+}
+
+/// The codes of A to I and of the sample of 000 read back, and those that 02 refuses for each of
+/// its reasons.
+#[test]
+fn readings_of_the_cases_and_of_the_sample() {
+    let mut replay = Replay::start();
+    let (mut cases, mut rows) = (BTreeSet::new(), BTreeMap::new());
+    for settled in readings() {
+        let reply = replay.call(&Message::from(&settled.call));
+        let wanted = Reply::new(&settled.answer, &settled.after);
+        assert_eq!(reply, wanted, "case {}: {:?}", settled.case, settled.call);
+        if reply.row == 0 {
+            cases.insert(settled.case);
+        }
+        *rows.entry(reply.row).or_insert(0) += 1;
+    }
+    assert_eq!(cases, "-ABCDEFGHIS".chars().collect());
+    let least = BTreeMap::from([(0, 14), (9, 30), (10, 15), (11, 4)]);
+    assert!(rows.keys().eq(least.keys()), "{rows:?}");
+    assert!(
+        least.iter().all(|(row, least)| rows[row] >= *least),
+        "{rows:?}"
+    );
     replay.end();
 }
 

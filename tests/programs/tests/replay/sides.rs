@@ -2,10 +2,11 @@
 //! sheet, and elements of every number of points.
 
 use programs::replay::Replay;
-use reference::cases::{element_of, run, side, sound_call, Call, OPERATIONS};
+use reference::cases::{element_of, run, side, sound_call, sound_call_by, Call, OPERATIONS};
 use reference::drawn::full;
 use reference::rng::Rng;
 use reference::Answer::{self, Refused};
+use reference::Mark;
 use reference::{LEFT, PLUS, RIGHT, ROUND, SQUARE};
 
 /// Draws calls until one is accepted.
@@ -41,7 +42,7 @@ fn every_width_and_height() {
 }
 
 /// The operations that have an element.
-const WITH_ELEMENT: [usize; 6] = [0, 1, 2, 3, 4, 7];
+const WITH_ELEMENT: [usize; 7] = [0, 1, 2, 3, 4, 7, 8];
 
 /// 2 to 25 points: anywhere, all after the origin or all before it; most with holes.
 #[test]
@@ -60,9 +61,7 @@ fn elements_of_every_number_of_points() {
                 holes += has_hole(element) as u32;
                 let draw = || {
                     let (w, h) = (side(rng), side(rng));
-                    let mut call = sound_call(rng, operation, w, h);
-                    *call.parts().element.expect("an element") = element;
-                    call
+                    sound_call_by(rng, operation, w, h, element)
                 };
                 until_accepted(&mut calls, draw, &format!("elements, seed {seed}"));
             }
@@ -122,15 +121,32 @@ fn the_largest_sheet() {
             out: lent(len),
             work: work(),
         };
-        let (answer, _) = replay.agrees("the largest sheet", &encode(65_536));
-        let Answer::Coded { bytes, max_size } = answer else {
+        let (answer, after) = replay.agrees("the largest sheet", &encode(65_536));
+        let (Answer::Coded { bytes, max_size }, Call::Encode { out, .. }) = (&answer, after) else {
             panic!("{answer:?}");
         };
+        let (bytes, max_size) = (*bytes, *max_size);
         assert_eq!(max_size, largest);
         let exact = bytes as usize;
         assert_eq!(replay.agrees("exactly enough", &encode(exact)).0, answer);
         let (answer, _) = replay.agrees("one byte short", &encode(exact - 1));
         assert_eq!(answer, Refused(8));
+        let decode = |len: usize| Call::Decode {
+            w,
+            h,
+            element,
+            mark: Mark::Largest(max_size),
+            stream: out[..len].to_vec(),
+            image: lent(image.len()),
+            work: lent(5 * image.len() + 1),
+        };
+        let (answer, after) = replay.agrees("read back", &decode(exact));
+        assert_eq!(answer, Answer::Area(255 * 255));
+        assert!(matches!(after, Call::Decode { image: read, .. } if read == image));
+        let (answer, _) = replay.agrees("without its last byte", &decode(exact - 1));
+        assert_eq!(answer, Refused(9));
+        let (answer, _) = replay.agrees("with a byte more", &decode(exact + 1));
+        assert_eq!(answer, Refused(10));
         for cut in [0, largest, largest + 1] {
             let reconstruct = Call::Reconstruct {
                 w,

@@ -1,11 +1,13 @@
 //! The stream of calls itself: pieces, ends, limits, and what an operation does not use.
 
-use programs::format::{Message, Reply};
+use programs::format::{Message, Reply, DECODE_BLANK};
 use programs::replay::Replay;
 use programs::run;
 use reference::cases::{call, Call};
 use reference::rng::Rng;
 
+/// The longest x, and the longest of the other buffers.
+const LONGEST: usize = 1 << 20;
 const LARGEST: usize = 65_536;
 
 /// The bytes of a seed's call and of its reply.
@@ -53,7 +55,7 @@ fn input_that_ends_inside_a_call() {
 fn input_ends_at_an_unknown_operation() {
     let (calls, replies) = list(0..3);
     let (mut unknown, _) = both(3);
-    for operation in [8, 9, 128, 255] {
+    for operation in [10, 11, 128, 255] {
         unknown[0] = operation;
         let input = [&calls[..], &unknown, &calls].concat();
         assert!(run("replay", &input, 4096) == replies, "{operation}");
@@ -63,11 +65,11 @@ fn input_ends_at_an_unknown_operation() {
 #[test]
 fn input_ends_at_a_length_above_the_buffers() {
     let (calls, replies) = list(0..3);
-    for length in 0..4 {
-        for long in [LARGEST as u32 + 1, LARGEST as u32 + 256, 1 << 24, u32::MAX] {
+    for (length, most) in [LONGEST, LARGEST, LARGEST, LARGEST].into_iter().enumerate() {
+        for long in [most as u32 + 1, most as u32 + 256, 1 << 24, u32::MAX] {
             let mut head = [0; 33];
             head[17 + 4 * length..21 + 4 * length].copy_from_slice(&long.to_le_bytes());
-            let input = [&calls[..], &head, &vec![0; 1 << 18], &calls].concat();
+            let input = [&calls[..], &head, &vec![0; 1 << 21], &calls].concat();
             assert!(
                 run("replay", &input, 4096) == replies,
                 "length {length}: {long}"
@@ -76,16 +78,16 @@ fn input_ends_at_a_length_above_the_buffers() {
     }
 }
 
-/// Buffers of 65,536 are taken, and come back as they were where the call is refused.
+/// Buffers of 1,048,576 and 65,536 are taken, and come back as they were where the call is refused.
 #[test]
 fn the_largest_buffers() {
     let rng = &mut Rng::new(1);
     let mut replay = Replay::start();
-    for operation in 0..8 {
+    for operation in 0..10 {
         let message = Message {
             operation,
             numbers: [255, 255, 473536, 0],
-            x: rng.bytes(LARGEST),
+            x: rng.bytes(LONGEST),
             y: rng.bytes(LARGEST),
             z: rng.bytes(LARGEST),
             c: (0..LARGEST).map(|_| rng.number() as u16).collect(),
@@ -108,8 +110,8 @@ fn the_largest_buffers() {
 #[test]
 fn what_an_operation_does_not_use() {
     let rng = &mut Rng::new(2);
-    let mut replay = Replay::start();
-    for seed in 0..800 {
+    let (mut replay, mut passed_over) = (Replay::start(), 0);
+    for seed in 0..1600 {
         let call = call(seed);
         let (mut message, mut wanted) = (Message::from(&call), Reply::expected(&call));
         let long = rng.below(40);
@@ -133,11 +135,14 @@ fn what_an_operation_does_not_use() {
                 | Call::Minimise { .. }
                 | Call::Thin { .. }
                 | Call::Encode { .. }
-        ) {
+        ) || message.operation == DECODE_BLANK
+        {
             message.numbers[3] = rng.number() as u32;
+            passed_over += (message.operation == DECODE_BLANK) as u32;
         }
         let difference = replay.call(&message).difference(&wanted);
         assert_eq!(difference, None, "seed {seed}, {}", call.name());
     }
+    assert!(passed_over >= 10, "{passed_over} blank marks");
     replay.end();
 }

@@ -1,9 +1,15 @@
 //! Damaged arguments of every kind.
 
+use super::tickets::{pad, ticket_of_labels};
 use super::{Call, Parts};
+use crate::code::pack;
+use crate::decode::unpack;
 use crate::element::ORIGIN;
-use crate::frame::Frame;
+use crate::frame::{Frame, Set};
 use crate::rng::Rng;
+use crate::skeleton::{decompose, minimise};
+use crate::Answer::Area;
+use crate::Mark::{self, Blank, Largest};
 
 /// A way to damage a call: the row of the table that it aims at, and an edit that says
 /// whether the call has such an argument. An edit that says no has changed nothing.
@@ -39,7 +45,8 @@ pub const DAMAGES: &[Damage] = &[
     (3, |p| lengthen(&mut p.counters)),
     (3, |p| empty(&mut p.counters)),
     (3, |p| empty(&mut p.work)),
-    (3, below_3p),
+    (3, |p| shorten_work(p, |needed, _| needed - 1)),
+    (3, |p| p.planes > 3 && shorten_work(p, |_, plane| 3 * plane)),
     (4, |p| set_padding(p, |_| 0, |_| 7)),
     (4, |p| set_padding(p, |frame| frame.height - 1, |_| 7)),
     (4, |p| set_padding(p, |frame| frame.height / 2, |frame| frame.width % 8)),
@@ -58,12 +65,39 @@ pub const DAMAGES: &[Damage] = &[
     (7, |p| change_if(&mut p.cut_or_n, |_| u32::MAX)),
     (8, |p| shorten(&mut p.stream)),
     (8, |p| empty(&mut p.stream)),
+    (9, |p| set_mark(p, |_| Some(Largest(255)))),
+    (9, |p| set_mark(p, |_| Some(Largest(u32::MAX)))),
+    (9, |p| sized(p, |largest, _| change(largest, |n| n | 256))),
+    (9, |p| sized(p, |largest, _| change(largest, |n| n | 65536))),
+    // A blank scan has no largest size.
+    (9, |p| set_mark(p, |stream| stream.is_empty().then_some(Largest(0)))),
+    (9, |p| sized(p, |_, stream| empty(&mut Some(stream)))),
+    // Digits without end.
+    (9, |p| sized(p, |_, stream| { stream.fill(0xAA); true })),
+    // A leading zero digit, a run with no digit, a first size without a point, a run that passes
+    // every sheet, a point that is too large for its place.
+    (9, |p| sized(p, |_, stream| put_before(stream, &[1]))),
+    (9, |p| sized(p, |_, stream| put_before(stream, &[0]))),
+    (9, |p| sized(p, |_, stream| put_before(stream, &[0, 0]))),
+    (9, |p| sized(p, |_, stream| put_before(stream, &[2; 12]))),
+    (9, |p| sized(p, |largest, stream| {
+        put_before(stream, &[1, 0, 0]) && change(largest, |n| n.saturating_add(1))
+    })),
+    (10, |p| put_after(p, 0)),
+    (10, |p| put_after(p, 1)),
+    (10, |p| put_after(p, 0x80)),
+    (10, |p| set_bit_after(p, 1)),
+    (10, |p| set_bit_after(p, 2)),
+    (10, |p| set_mark(p, |stream| (!stream.is_empty()).then_some(Blank))),
+    // Every point of the image as one of size 0; the minimal labels.
+    (11, |p| exchange(p, |x, _| x.member.iter().map(|&ink| ink as u8).collect())),
+    (11, |p| exchange(p, |x, element| minimise(x.frame, element, &decompose(x, element)))),
 ];
 
 /// Damages one argument, each row of the table as often as another.
 pub fn damage(rng: &mut Rng, call: &mut Call) {
     loop {
-        let row = rng.between(1, 8) as u8;
+        let row = rng.between(1, 11) as u8;
         let kinds: Vec<&Damage> = DAMAGES.iter().filter(|damage| damage.0 == row).collect();
         let (_, edit) = rng.pick(&kinds);
         if edit(&mut call.parts()) {
@@ -96,12 +130,13 @@ fn empty<T>(buffer: &mut Option<&mut Vec<T>>) -> bool {
     all > 0
 }
 
-/// One byte of work too few.
-fn below_3p(p: &mut Parts) -> bool {
+/// Leaves less work than is needed: so many bytes, by those that are and by P.
+fn shorten_work(p: &mut Parts, to: fn(usize, usize) -> usize) -> bool {
     let (Some(frame), Some(work)) = (Frame::new(*p.w, *p.h), p.work.as_mut()) else {
         return false;
     };
-    work.truncate(3 * frame.plane_bytes() - 1);
+    let plane = frame.plane_bytes();
+    work.truncate(to(p.planes * plane, plane));
     true
 }
 
@@ -135,4 +170,66 @@ fn set_mask(p: &mut Parts, to: fn(u32, u32) -> (u32, u32)) -> bool {
     };
     (**fg, **bg) = to(**fg, **bg);
     true
+}
+
+/// Puts another mark beside a stream that is read, if it has one for it.
+fn set_mark(p: &mut Parts, to: fn(&[u8]) -> Option<Mark>) -> bool {
+    let Some((mark, stream)) = &mut p.ticket else {
+        return false;
+    };
+    let other = to(stream);
+    **mark = other.unwrap_or(**mark);
+    other.is_some()
+}
+
+/// Edits a largest size and the stream that is read with it.
+fn sized(p: &mut Parts, edit: fn(&mut u32, &mut Vec<u8>) -> bool) -> bool {
+    match &mut p.ticket {
+        Some((Largest(max_size), stream)) => edit(max_size, stream),
+        _ => false,
+    }
+}
+
+/// Puts symbols before those of a stream.
+fn put_before(stream: &mut Vec<u8>, symbols: &[u8]) -> bool {
+    *stream = pack(&[symbols, &unpack(stream)].concat());
+    true
+}
+
+/// Puts a byte after a stream that is read.
+fn put_after(p: &mut Parts, byte: u8) -> bool {
+    let longer = p.ticket.as_mut().map(|(_, stream)| stream.push(byte));
+    longer.is_some()
+}
+
+/// Sets a bit in the padding of a stream that is read, counted from the last.
+fn set_bit_after(p: &mut Parts, bit: usize) -> bool {
+    let ticket = p.ticket.as_mut();
+    ticket.is_some_and(|(mark, stream)| pad(**mark, stream, bit))
+}
+
+/// Exchanges a code that is sound for that of other labels that its image makes.
+fn exchange(p: &mut Parts, to: fn(&Set, u32) -> Vec<u8>) -> bool {
+    let (Some(image), Some(element)) = (read(p), p.element.as_ref()) else {
+        return false;
+    };
+    let labels = to(&image, **element);
+    if labels == decompose(&image, **element) {
+        return false;
+    }
+    let other = ticket_of_labels(*p.w, *p.h, **element, &labels);
+    let ticket = p.ticket.as_mut();
+    ticket
+        .map(|(mark, stream)| (**mark, **stream) = other)
+        .is_some()
+}
+
+/// The image of a code that is sound.
+fn read(p: &Parts) -> Option<Set> {
+    let (frame, element) = (Frame::new(*p.w, *p.h)?, **p.element.as_ref()?);
+    let (mark, stream) = p.ticket.as_ref()?;
+    let mut image = vec![0; frame.plane_bytes()];
+    let mut work = vec![0; p.planes * image.len()];
+    let answer = crate::decode(*p.w, *p.h, element, **mark, stream, &mut image, &mut work);
+    matches!(answer, Area(_)).then(|| frame.unpack(&image))
 }

@@ -2,9 +2,11 @@
 
 use super::{Call, Damage, DAMAGES};
 use crate::drawn::{full, labels};
+use crate::Mark::{Blank, Largest};
 use crate::SQUARE;
 
-/// One accepted call of each operation on a 3 by 3 frame, with the rows that can refuse it.
+/// An accepted call of each operation on a 3 by 3 frame, with the rows that can refuse it. The
+/// reader of codes has two: the code of case B, whose labels can be minimised, and a blank.
 pub fn accepted() -> Vec<(Call, Vec<u8>)> {
     let (w, h, element) = (3, 3, SQUARE);
     let image = || full(3, 3);
@@ -30,6 +32,12 @@ pub fn accepted() -> Vec<(Call, Vec<u8>)> {
         // Exactly enough for the stream.
         (Call::Encode { w, h, element, image: image(), out: vec![0x5A; 2], work: vec![0xA5; 10] },
             vec![1, 2, 3, 4, 8]),
+        (Call::Decode { w: 5, h, element, mark: Largest(1), stream: vec![0xD1, 0x10, 0x00],
+            image: out(), work: vec![0xA5; 16] },
+            vec![1, 2, 3, 9, 10, 11]),
+        (Call::Decode { w, h, element, mark: Blank, stream: vec![],
+            image: out(), work: vec![0xA5; 15] },
+            vec![1, 2, 3, 9, 10]),
     ];
     calls
 }
@@ -50,12 +58,12 @@ impl Damaged {
     }
 
     /// The call with every lent buffer as it is afterwards: no byte has changed, but that row 8
-    /// leaves the first 3P bytes of work 0.
+    /// leaves the first 3P bytes of work 0, and rows 9 to 11 the first 5P.
     pub fn after(&self) -> Call {
         let mut after = self.call.clone();
-        if self.row() == 8 {
+        if self.row() >= 8 {
             let p = after.parts();
-            let cleared = 3 * (p.w.div_ceil(8) * *p.h) as usize;
+            let cleared = p.planes * (p.w.div_ceil(8) * *p.h) as usize;
             p.work.into_iter().for_each(|work| work[..cleared].fill(0));
         }
         after

@@ -9,7 +9,7 @@ fn plane_bytes(p: &Parts) -> usize {
     (p.w.div_ceil(8) * *p.h) as usize
 }
 
-/// Refusal 8 of 02 alone clears work.
+/// Refusals 8 to 11 of 02 clear work, and are tested there.
 #[test]
 fn after_a_refusal_no_lent_byte_has_changed() {
     let mut refused = 0;
@@ -32,7 +32,7 @@ fn after_a_success_work_and_counters_are_cleared() {
             continue;
         }
         let (before, after) = (before.parts(), after.parts());
-        let cleared = 3 * plane_bytes(&before);
+        let cleared = before.planes * plane_bytes(&before);
         if let (Some(before), Some(after)) = (before.work, after.work) {
             assert!(after[..cleared].iter().all(|&byte| byte == 0));
             assert_eq!(after[cleared..], before[cleared..], "the rest is as it was");
@@ -53,6 +53,7 @@ fn after_a_success_what_is_only_read_is_unchanged() {
             | (Call::Decompose { image: b, .. }, Call::Decompose { image: a, .. })
             | (Call::HitOrMiss { image: b, .. }, Call::HitOrMiss { image: a, .. })
             | (Call::Encode { image: b, .. }, Call::Encode { image: a, .. })
+            | (Call::Decode { stream: b, .. }, Call::Decode { stream: a, .. })
             | (Call::Reconstruct { labels: b, .. }, Call::Reconstruct { labels: a, .. }) => {
                 assert_eq!(a, b)
             }
@@ -89,7 +90,10 @@ fn what_buffers_held_before_never_matters() {
         let decomposes = matches!(first, Call::Decompose { .. });
         let cleared = match run(&first).0 {
             Refused(_) => 0,
-            _ => 3 * plane_bytes(&second.parts()),
+            _ => {
+                let p = second.parts();
+                p.planes * plane_bytes(&p)
+            }
         };
         let p = second.parts();
         let change = |buffer: &mut [u8], rng: &mut Rng| {

@@ -1,5 +1,5 @@
 //! The table of refusals: each row alone, at its boundary, and every pair of rows that can
-//! occur in one call. Row 8 is that of 02.
+//! occur in one call. Row 8 is that of 02, and so are 9 to 11.
 
 use crate::{calls, plain};
 use reference::cases::{accepted, call, damaged, run, Call, Damaged, DAMAGES};
@@ -9,7 +9,7 @@ use reference::Answer::*;
 use reference::{RIGHT, SQUARE};
 use std::collections::BTreeSet;
 
-/// The call is refused with this number, and no lent byte changes; but row 8 clears work.
+/// The call is refused with this number, and no lent byte changes; but rows 8 to 11 clear work.
 fn assert_refused(call: &Call, row: u8) {
     let (answer, after) = run(call);
     assert_eq!(answer, Refused(row), "{call:?}");
@@ -50,7 +50,7 @@ fn a_damage_that_a_call_cannot_have_changes_nothing() {
 }
 
 /// The row of the table that refuses a call, or 0: the table read once more, row 5 as a test
-/// of boxes.
+/// of boxes. What the table lets pass of codes that are read is for the tests of 02.
 fn row_of(call: &Call) -> u8 {
     let mut call = call.clone();
     let p = call.parts();
@@ -72,7 +72,10 @@ fn row_of(call: &Call) -> u8 {
         || p.labels
             .as_ref()
             .is_some_and(|labels| labels.len() != w * h)
-        || p.work.is_some_and(|work| work.len() < 3 * bytes)
+        || p.work.is_some_and(|work| match p.ticket {
+            Some(_) => work.len() < 5 * bytes,
+            None => work.len() < 3 * bytes,
+        })
         || p.counters.is_some_and(|counters| counters.len() != w * h)
     {
         return 3;
@@ -122,15 +125,23 @@ fn row_of(call: &Call) -> u8 {
     0
 }
 
+/// Whether a call is refused where the table says so, and only there. A code that is read may be
+/// wrong by rows 9 to 11 of 02.
+fn assert_row(call: &Call) -> u8 {
+    let row = row_of(call);
+    match (row, run(call).0) {
+        (0, Refused(9..=11)) => assert!(matches!(call, Call::Decode { .. }), "{call:?}"),
+        (0, answer) => assert!(!matches!(answer, Refused(_)), "{call:?}"),
+        _ => assert_refused(call, row),
+    }
+    row
+}
+
 /// "Given exactly when": generated calls are refused where the table says so, and only there.
 #[test]
 fn exactly_when_the_table_says_so() {
     for seed in 100_000..115_000 {
-        let call = call(seed);
-        match row_of(&call) {
-            0 => assert!(!matches!(run(&call).0, Refused(_)), "seed {seed}"),
-            row => assert_refused(&call, row),
-        }
+        assert_row(&call(seed));
     }
 }
 
@@ -152,7 +163,8 @@ fn any_numbers_and_any_lengths() {
                 *argument = number(rng);
             }
         }
-        let buffers = [p.read, p.written, p.stream, p.labels, p.work];
+        let read = p.ticket.map(|(_, stream)| stream);
+        let buffers = [p.read, p.written, p.stream, read, p.labels, p.work];
         for buffer in buffers.into_iter().flatten() {
             if rng.one_in(8) {
                 let len = rng.below(40);
@@ -162,13 +174,7 @@ fn any_numbers_and_any_lengths() {
         if let Some(counters) = p.counters.filter(|_| rng.one_in(8)) {
             counters.resize(rng.below(40), 7);
         }
-        match row_of(&call) {
-            0 => {
-                assert!(!matches!(run(&call).0, Refused(_)), "{call:?}");
-                successes += 1;
-            }
-            row => assert_refused(&call, row),
-        }
+        successes += (assert_row(&call) == 0) as u32;
     }
     assert!(successes > 5000);
 }

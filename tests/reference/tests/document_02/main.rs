@@ -1,8 +1,10 @@
-//! Tests of T-01 of document 02, the coded ticket. Expected values are the document's; where it
-//! gives none, they come from `plain`, the rule by sets of points and text.
+//! Tests of document 02: the coded ticket as it is written (T-01), and as it is read (T-02) in
+//! `reading`. Expected values are the document's; where it gives none, they come from `plain`, the
+//! rule by sets of points and text.
 
 mod cases_a_to_i;
 mod lent_bytes;
 mod plain;
+mod reading;
 mod refusals;
 mod words;

@@ -1,0 +1,5 @@
+pub mod ColumnLaws
+pub mod EdgeLaws
+pub mod LentLaws
+pub mod GrowLaws
+pub mod ErodedLaws

@@ -1,0 +1,4 @@
+pub mod PaddingLaws
+pub mod HeldLaws
+pub mod StepLaws
+pub mod CodeLaws

@@ -1,0 +1,4 @@
+pub mod RowLaws
+pub mod WalkLaws
+pub mod PlaneLaws
+pub mod SizeLaws

@@ -1,0 +1,14 @@
+pub mod ValueLaws
+pub mod SplitLaws
+pub mod PlacedLaws
+pub mod MapLaws
+pub mod OwnFacts
+pub mod ChainLaws
+pub mod PaddingLaws
+pub mod OwnLaws
+pub mod DecodingLaws
+pub mod ReadLaws
+pub mod SizesLaws
+pub mod SeekLaws
+pub mod TakeLaws
+pub mod ReadingCases
