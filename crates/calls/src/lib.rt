@@ -10,8 +10,13 @@ use skeleton::Decomposed;
 use skeleton::Written;
 use thinning::Thinned;
 ghost use mathlib.Core.Path.{_≡_};
+ghost use mathlib.Core.Bool.{cond};
 ghost use mathlib.Core.List.{[], _∷_};
+ghost use Prim.Native.Nat.{_^_};
+ghost use lib.Dec.{ltb};
+ghost use lib.ListN.{length};
 ghost use Rattle.morphology.specs.Answers.{answered, outcome, refused as refusedAnswer};
+ghost use Rattle.morphology.specs.Image.{onesOf};
 ghost use Rattle.encoding.specs.Encoded.{answerOf as encodedAnswer};
 ghost use Rattle.iteration.specs.Written.{answerOf as writtenAnswer};
 ghost use Rattle.minimal.specs.Minimised.{answerOf as minimisedAnswer};
@@ -160,4 +165,18 @@ pub extern "C" fn call(
         8 => of_written(decoding::decode(w, h, a, Mark::Largest(b), x, y, z)),
         _ => of_written(decoding::decode(w, h, a, Mark::Blank, x, y, z)),
     }
+}
+
+// No lent plane has as many bytes.
+const TOO_LONG: usize = 1048576;
+
+// The number of ones in the bytes of s, as the operations count an area; 0 where there are too many. Exported for bench/ and tests/.
+#[no_mangle]
+pub extern "C" fn count(s: &[u8]) -> u32
+    ensures { λ r. ⌜ r ≡ cond (ltb (length (now (s .entry))) (2 ^ 20)) (onesOf (now (s .entry))) 0 ⌝ }
+{
+    if s.len() >= TOO_LONG {
+        return 0;
+    }
+    raster::count_ones(s)
 }

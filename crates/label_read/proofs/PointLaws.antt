@@ -22,7 +22,7 @@ use Rattle.morphology.proofs.CountLaws.{digit}
 use Rattle.morphology.proofs.ImageLaws.{bit-fromBits, bits-of, fromBits-lt}
 use Rattle.raster.specs.Rows.{Pixelwise, PlaneIs, RowIs, rowBit}
 use Rattle.raster.proofs.ByteLaws.{below8, join-bit}
-use Rattle.raster.proofs.CountLaws.{any-suc, or-ink}
+use Rattle.raster.proofs.BufferLaws.{any-suc, or-ink}
 use Rattle.raster.proofs.LoopLaws.{Mapped}
 use Rattle.raster.proofs.PartLaws.{pixelwise-part, row-same}
 use Rattle.raster.proofs.RowLaws.{mapped-pixels}

@@ -1,223 +1,121 @@
--- Copies, counts, comparisons and padding, element by element.
-use mathlib.Core.Bool.{Bool, _&&_, _||_, false, not, or-assoc, or-false}
-use mathlib.Core.List.{List, List·Memᴰ, [], _++_, _∷_}
-use mathlib.Core.Path.{_∙_, _≡_, ap, ap₂, refl, subst, sym}
-use Prim.Native.Nat.{_%_, _*_, _+_, _-_, _/_, _<_, _^_, _≤_, suc, zero, zero-le, ℕ}
-use native.Mathlib.Decide.{decLt, ℕ-discrete}
-use native.Mathlib.Nat.{add-assoc, add-suc, add-zero, le-of-suc-le-suc, mod-lt, mod-one, not-suc-le-zero, suc-add, suc-mul, zero-add, zero-lt-suc}
-use native.Mathlib.Numerals.{add-one}
+-- Ones of a list of bytes: of parts of it, of words made of it, of words added place by place.
+use mathlib.Core.List.{List, [], _++_, _∷_}
+use mathlib.Core.Path.{_∙_, _≡_, ap, ap₂, refl, sym}
+use Prim.Native.Nat.{_%_, _*_, _+_, _/_, _<_, _^_, suc, zero, ℕ}
+use native.Mathlib.Nat.{add-assoc, add-comm, add-zero, pow-suc, suc-add, suc-mul, zero-add, zero-mul}
 use native.Mathlib.Omega.{arith}
-use borrow.Author.Tests.{eq-eqb, ne-eqb}
-use lib.Bits.{and-le-l, and-le-r, bitOr, bitXor, or-add-and, or-zero-l, xor-add-and, xor-self}
-use lib.Count.{ones, ones-le}
-use lib.Dec.{T, eqb}
-use lib.ListN.{List·getD-append, List·getD-eq-default, drop, getD, length, length-append, length-drop, replicate, take}
-use lib.Pow.{mod-pow-add, pow-pos}
-use lib.Seq.{ext-getD, getD-append-add, getD-drop, getD-take, length-take-le, take-add}
-use Rattle.morphology.specs.Element.{bit}
-use Rattle.morphology.specs.Image.{bitOf, isClean, onesOf, pixel, stride}
-use Rattle.morphology.specs.Lists.{everyOf, someOf, tabulate, upTo}
-use Rattle.morphology.proofs.CountLaws.{all-suc}
-use Rattle.morphology.proofs.ImageLaws.{mem-row}
-use Rattle.morphology.proofs.TestLaws.{T-ext, all-out}
-use Rattle.raster.specs.Limits.{maxFrame, maxStride}
-use Rattle.raster.specs.Rows.{Summed, sumOf}
-use Rattle.raster.proofs.ByteLaws.{below8}
-use Rattle.raster.proofs.LoopLaws.{Mapped}
+use lib.Bits.{and-mod, and-shr, bitAnd, bitOr, bitXor, or-mod, or-shr, xor-mod, xor-shr}
+use lib.Count.{ones, ones-cat, ones-step}
+use lib.ListN.{drop, getD, length, take}
+use lib.Seq.{drop-cons, drop-drop, take-add, take-length}
+use Rattle.morphology.specs.Image.{onesOf}
+use Rattle.raster.specs.Counts.{Gathered, onesApart}
 
--- ---- copies
-
-pub copied : (src old new : List ℕ) (i : ℕ) → length src ≡ length old → length old ≤ i → Mapped (λ j. getD src j 0) old new i → new ≡ src
-copied src old new i e h m = ext-getD 0 new src (m .size ∙ sym e) (λ j l. m .done j (omega (arith, m .size)))
-
--- the n elements at p copied over the first n
-pub copied-down : (p n : ℕ) (old new : List ℕ) → n ≤ p → p + n ≤ length old → Mapped (λ j. getD old (p + j) 0) old new n
-    → new ≡ take n (drop p old) ++ drop n old
-copied-down p n old new np h m =
-    let a : List ℕ = take n (drop p old) in
-    let la : length a ≡ n = length-take-le n (drop p old) (omega (arith, length-drop p old)) in
-    ext-getD 0 new (a ++ drop n old) (m .size ∙ sym (simp length-append (omega (arith, la, length-drop n old)))) (λ i l. by i (decLt i n) la)
-  where
-    by : (i : ℕ) → Dec (i < n) → length (take n (drop p old)) ≡ n → getD new i 0 ≡ getD (take n (drop p old) ++ drop n old) i 0
-    by i (yes k) la =
-        m .done i k
-        ∙ sym (List·getD-append (take n (drop p old)) (drop n old) 0 i (omega arith) ∙ getD-take n (drop p old) i 0 k ∙ getD-drop p old i 0)
-    by i (no k) la =
-        m .rest i (omega arith)
-        ∙ sym (ap (λ (j : ℕ). getD (take n (drop p old) ++ drop n old) j 0) (omega (arith, la))
-        ∙ getD-append-add (take n (drop p old)) (drop n old) (i - n) 0 ∙ getD-drop n old (i - n) 0 ∙ ap (λ (j : ℕ). getD old j 0) (omega arith))
-
--- ---- counts
-
-ones-suc : (l : List ℕ) (i : ℕ) → i < length l → onesOf (take (suc i) l) ≡ onesOf (take i l) + ones (getD l i 0)
-unfolding onesOf
-ones-suc [] i h = absurd (not-suc-le-zero h)
-ones-suc (b ∷ l) zero h = add-zero (ones b) ∙ sym (zero-add (ones b))
-ones-suc (b ∷ l) (suc i) h = ap (λ (n : ℕ). ones b + n) (ones-suc l i (le-of-suc-le-suc h)) ∙ sym (add-assoc (ones b) (onesOf (take i l)) (ones (getD l i 0)))
-
-pub ones-more : (l : List ℕ) (i : ℕ) → i < length l → onesOf (take (i + 1) l) ≡ onesOf (take i l) + ones (getD l i 0)
-ones-more l i h = rw add-one (ones-suc l i h)
+-- ---- parts
 
 ones-append : (a b : List ℕ) → onesOf (a ++ b) ≡ onesOf a + onesOf b
 unfolding onesOf
 ones-append [] b = sym (zero-add (onesOf b))
 ones-append (x ∷ a) b = ap (λ (n : ℕ). ones x + n) (ones-append a b) ∙ sym (add-assoc (ones x) (onesOf a) (onesOf b))
 
--- k elements more
-pub ones-part : (l : List ℕ) (i k j : ℕ) → k ≡ j → onesOf (take (i + j) l) ≡ onesOf (take i l) + onesOf (take k (drop i l))
-ones-part l i k j e =
-    ap onesOf (take-add i j l) ∙ ones-append (take i l) (take j (drop i l)) ∙ ap (λ (n : ℕ). onesOf (take i l) + onesOf (take n (drop i l))) (sym e)
+-- k bytes more
+pub ones-more : (l : List ℕ) (i k : ℕ) → onesOf (take (i + k) l) ≡ onesOf (take i l) + onesOf (take k (drop i l))
+ones-more l i k = ap onesOf (take-add i k l) ∙ ones-append (take i l) (take k (drop i l))
 
--- ---- sums of bytes
+-- all of them
+pub ones-whole : (l : List ℕ) (i : ℕ) → i ≡ length l → onesOf (take i l) ≡ onesOf l
+ones-whole l i e = ap (λ (n : ℕ). onesOf (take n l)) e ∙ ap onesOf (take-length l)
 
-sum-suc : (l : List ℕ) (i : ℕ) → i < length l → sumOf (take (suc i) l) ≡ sumOf (take i l) + getD l i 0
-unfolding sumOf
-sum-suc [] i h = absurd (not-suc-le-zero h)
-sum-suc (b ∷ l) zero h = add-zero b ∙ sym (zero-add b)
-sum-suc (b ∷ l) (suc i) h = ap (λ (n : ℕ). b + n) (sum-suc l i (le-of-suc-le-suc h)) ∙ sym (add-assoc b (sumOf (take i l)) (getD l i 0))
+-- k more, from o on
+ones-part : (l : List ℕ) (o i k : ℕ) → onesOf (take (i + k) (drop o l)) ≡ onesOf (take i (drop o l)) + onesOf (take k (drop (o + i) l))
+ones-part l o i k = rw (← drop-drop i o l) (ones-more (drop o l) i k)
 
-pub sum-more : (l : List ℕ) (i : ℕ) → i < length l → sumOf (take (i + 1) l) ≡ sumOf (take i l) + getD l i 0
-sum-more l i h = rw add-one (sum-suc l i h)
+-- ---- words
 
--- a loop that adds the ones
-pub summed : (s old new : List ℕ) (n : ℕ) → length old ≤ n → Mapped (λ j. getD old j 0 + ones (getD s j 0)) old new n → Summed s old new
-summed s old new n h m = record { size = m .size; places = λ j l. m .done j (omega arith) }
+pub gathered-byte : {l : List ℕ} {i v : ℕ} → i < length l → v ≡ getD l i 0 → v < 256 → Gathered l i 1 v
+unfolding onesOf
+gathered-byte {l} {i} {v} h e b = record { fits = b; same = rw (drop-cons l i 0) (ap ones e ∙ sym (add-zero (ones (getD l i 0)))) }
 
-sum-places : (s old new : List ℕ) → length s ≡ length old → length new ≡ length old → ((j : ℕ) → j < length old → getD new j 0 ≡ getD old j 0 + ones (getD s j 0))
-    → sumOf new ≡ sumOf old + onesOf s
-unfolding sumOf onesOf
-sum-places [] [] [] e f g = refl
-sum-places [] [] (c ∷ new) e f g = absurd (omega arith)
-sum-places [] (b ∷ old) new e f g = absurd (omega arith)
-sum-places (a ∷ s) [] new e f g = absurd (omega arith)
-sum-places (a ∷ s) (b ∷ old) [] e f g = absurd (omega arith)
-sum-places (a ∷ s) (b ∷ old) (c ∷ new) e f g =
-    let h : c ≡ b + ones a = g 0 (omega arith) in
-    let q = sum-places s old new (omega arith) (omega arith) (λ j l. g (suc j) (omega arith)) in
-    omega arith
+-- two numbers side by side
+pub gathered-both : {l : List ℕ} {i j k a b : ℕ} → b * 2 ^ (8 * j) + a < 2 ^ (8 * (j + k)) → Gathered l i j a → Gathered l (i + j) k b
+    → Gathered l i (j + k) (b * 2 ^ (8 * j) + a)
+gathered-both {l} {i} {j} {k} {a} {b} h x y =
+    record { fits = h; same = ones-cat (8 * j) b a (x .fits) ∙ add-comm (ones b) (ones a) ∙ ap₂ _+_ (x .same) (y .same) ∙ sym (ones-part l i j k) }
 
-pub sum-added : (s old new : List ℕ) → length s ≡ length old → Summed s old new → sumOf new ≡ sumOf old + onesOf s
-sum-added s old new e m = sum-places s old new e (m .size) (m .places)
+-- the ones of the first i bytes, and of k more
+pub gathered-more : {l : List ℕ} {i k n v : ℕ} → Gathered l i k v → n ≡ onesOf (take i l) → n + ones v ≡ onesOf (take (i + k) l)
+gathered-more {l} {i} {k} g e = ap₂ _+_ e (g .same) ∙ sym (ones-more l i k)
 
--- no sum rises by more than 8
-pub summed-le : (s old new : List ℕ) (i : ℕ) → ((j : ℕ) → getD s j 0 < 256) → length s ≡ length old → Summed s old new → ((j : ℕ) → getD old j 0 ≤ i / 8)
-    → (j : ℕ) → getD new j 0 ≤ (i + 64) / 8
-summed-le s old new i bytes e m h j = by (decLt j (length old))
-  where
-    by : Dec (j < length old) → getD new j 0 ≤ (i + 64) / 8
-    by (yes l) = let o = ones-le 8 (getD s j 0) (bytes j) in omega (arith, m .places j l, h j)
-    by (no l) = let z : getD new j 0 ≡ 0 = List·getD-eq-default new 0 (omega (arith, m .size)) in omega arith
+-- ---- words added place by place
 
-pub sums-none : (n k j : ℕ) → getD (replicate n 0) j 0 ≤ k
-sums-none n k j = subst (λ (v : ℕ). v ≤ k) (sym (go n j)) zero-le
-  where
-    go : (n j : ℕ) → _≡_ {A = ℕ} (getD (replicate n 0) j 0) 0
-    go zero j = refl
-    go (suc n) zero = refl
-    go (suc n) (suc j) = go n j
+abbrev low : ℕ → ℕ → ℕ → ℕ
+low a b c = bitXor (bitXor a b) c
 
-pub sum-le : (l : List ℕ) (k : ℕ) → ((j : ℕ) → getD l j 0 ≤ k) → sumOf l ≤ length l * k
-unfolding sumOf
-sum-le [] k h = zero-le
-sum-le (b ∷ l) k h = let q = sum-le l k (λ j. h (suc j)) in let p : b ≤ k = h 0 in omega (arith, suc-mul (length l) k)
+abbrev high : ℕ → ℕ → ℕ → ℕ
+high a b c = bitOr (bitAnd a b) (bitAnd (bitXor a b) c)
 
--- ---- ink
+-- a binary digit
+binary : (P : ℕ → Type 0) → P 0 → P 1 → (n : ℕ) → n < 2 → P n
+binary P x y zero h = x
+binary P x y (suc zero) h = y
+binary P x y (suc (suc n)) h = absurd (omega arith)
 
-pub any-suc : (p : ℕ → Bool) (l : List ℕ) (i : ℕ) → i < length l → someOf p (take (suc i) l) ≡ (someOf p (take i l) || p (getD l i 0))
-any-suc p [] i h = absurd (not-suc-le-zero h)
-any-suc p (b ∷ l) zero h = or-false (p b)
-any-suc p (b ∷ l) (suc i) h = ap (λ (c : Bool). p b || c) (any-suc p l i (le-of-suc-le-suc h)) ∙ sym (or-assoc (p b) (someOf p (take i l)) (p (getD l i 0)))
+-- three of them
+abbrev Digits : ℕ → ℕ → ℕ → Type 0
+Digits a b c = low a b c + 2 * high a b c ≡ a + b + c
 
--- an or is 0 where both are
-pub or-ink : (a b : ℕ) → not (eqb (bitOr a b) 0) ≡ (not (eqb a 0) || not (eqb b 0))
-or-ink zero b = ap (λ (n : ℕ). not (eqb n 0)) (or-zero-l b)
-or-ink (suc a) b = ap not (ne-eqb (bitOr (suc a) b) 0 (λ e. omega (arith, or-add-and (suc a) b, and-le-r (suc a) b, e))) ∙ sym (ap (λ (c : Bool). not c || not (eqb b 0)) (ne-eqb (suc a) 0 (λ e. omega arith)))
+digits : (a b c : ℕ) → a < 2 → b < 2 → c < 2 → Digits a b c
+digits a b c x y z =
+    binary (λ (a : ℕ). Digits a b c)
+    (binary (λ (b : ℕ). Digits 0 b c) (binary (Digits 0 0) refl refl c z) (binary (Digits 0 1) refl refl c z) b y)
+    (binary (λ (b : ℕ). Digits 1 b c) (binary (Digits 1 0) refl refl c z) (binary (Digits 1 1) refl refl c z) b y)
+    a x
 
-pub ink-more : (seen : ℕ) (l : List ℕ) (i : ℕ) → i < length l → not (eqb seen 0) ≡ someOf (λ b. not (eqb b 0)) (take i l)
-    → not (eqb (bitOr seen (getD l i 0)) 0) ≡ someOf (λ b. not (eqb b 0)) (take (i + 1) l)
-ink-more seen l i h e =
-    or-ink seen (getD l i 0) ∙ ap (λ (c : Bool). c || not (eqb (getD l i 0) 0)) e
-    ∙ sym (ap (λ (n : ℕ). someOf (λ b. not (eqb b 0)) (take n l)) (add-one i) ∙ any-suc (λ b. not (eqb b 0)) l i h)
+-- words of d digits, by the last digit of each and the others
+pub added : (d a b c : ℕ) → a < 2 ^ d → b < 2 ^ d → c < 2 ^ d → ones (low a b c) + 2 * ones (high a b c) ≡ ones a + ones b + ones c
+unfolding ones
+added zero zero zero zero x y z = refl
+added zero zero zero (suc c) x y z = absurd (omega arith)
+added zero zero (suc b) c x y z = absurd (omega arith)
+added zero (suc a) b c x y z = absurd (omega arith)
+added (suc d) a b c x y z =
+    let half : (n : ℕ) → n < 2 ^ suc d → n / 2 < 2 ^ d = λ n h. omega (arith, pow-suc 2 d) in
+    let l : low a b c / 2 ≡ low (a / 2) (b / 2) (c / 2) = rw (xor-shr (bitXor a b) c 1, xor-shr a b 1) in
+    let l' : low a b c % 2 ≡ low (a % 2) (b % 2) (c % 2) = rw (xor-mod (bitXor a b) c 1, xor-mod a b 1) in
+    let h : high a b c / 2 ≡ high (a / 2) (b / 2) (c / 2) =
+    rw (or-shr (bitAnd a b) (bitAnd (bitXor a b) c) 1, and-shr a b 1, and-shr (bitXor a b) c 1, xor-shr a b 1) in
+    let h' : high a b c % 2 ≡ high (a % 2) (b % 2) (c % 2) =
+    rw (or-mod (bitAnd a b) (bitAnd (bitXor a b) c) 1, and-mod a b 1, and-mod (bitXor a b) c 1, xor-mod a b 1) in
+    let last = digits (a % 2) (b % 2) (c % 2) (omega arith) (omega arith) (omega arith) in
+    let others = added d (a / 2) (b / 2) (c / 2) (half a x) (half b y) (half c z) in
+    omega (arith, ones-step (low a b c), ones-step (high a b c), ones-step a, ones-step b, ones-step c, ap ones l, ap ones h)
 
--- ---- tests of all numbers below n
+-- ---- pieces apart
 
-pub all-more : (p : ℕ → Bool) (n : ℕ) → everyOf p (upTo (n + 1)) ≡ (everyOf p (upTo n) && p n)
-all-more p n = ap (λ (k : ℕ). everyOf p (upTo k)) (add-one n) ∙ all-suc p (λ k. k) 0 n ∙ ap (λ (k : ℕ). everyOf p (upTo n) && p k) (zero-add n)
+-- k bytes more of each
+apart-longer : (l : List ℕ) (p i k o n : ℕ) → onesApart l p (i + k) o n ≡ onesApart l p i o n + onesApart l p k (o + i) n
+unfolding onesApart
+apart-longer l p i k o zero = refl
+apart-longer l p i k o (suc n) =
+    let q : o + p + i ≡ o + i + p = omega arith in
+    omega (arith, ones-part l o i k, apart-longer l p i k (o + p) n, ap (λ (m : ℕ). onesApart l p k m n) q)
 
-pub all-not : (p : ℕ → Bool) (n y : ℕ) → y < n → p y ≡ false → everyOf p (upTo n) ≡ false
-all-not p n y h e =
-    T-ext (λ t. subst T e (all-out p t (subst (λ (k : ℕ). List·Memᴰ k (upTo n)) (zero-add y) (mem-row (λ k. k) 0 n y h)))) (λ t. absurd t)
+pub apart-more : (l : List ℕ) (p i k n : ℕ) → onesApart l p (i + k) 0 n ≡ onesApart l p i 0 n + onesApart l p k i n
+apart-more l p i k n = apart-longer l p i k 0 n ∙ ap (λ (o : ℕ). onesApart l p i 0 n + onesApart l p k o n) (zero-add i)
 
--- ---- comparisons
+-- a and then b of them
+pub apart-add : (l : List ℕ) (p k o a b : ℕ) → onesApart l p k o (a + b) ≡ onesApart l p k o a + onesApart l p k (o + a * p) b
+unfolding onesApart
+apart-add l p k o zero b = simp (zero-add, zero-mul, add-zero)
+apart-add l p k o (suc a) b =
+    let q : o + p + a * p ≡ o + suc a * p = omega (arith, suc-mul a p) in
+    ap (onesApart l p k o) (suc-add a b) ∙ omega (arith, apart-add l p k (o + p) a b, ap (λ (m : ℕ). onesApart l p k m b) q)
 
-xor-zero : (a b : ℕ) → bitXor a b ≡ 0 → a ≡ b
-xor-zero a b e = omega (arith, xor-add-and a b, and-le-l a b, and-le-r a b)
-
-xor-same : (a b : ℕ) → eqb (bitXor a b) 0 ≡ eqb a b
-xor-same a b = by (ℕ-discrete a b)
-  where
-    by : Dec (a ≡ b) → eqb (bitXor a b) 0 ≡ eqb a b
-    by (yes e) = eq-eqb (bitXor a b) 0 (ap (λ (n : ℕ). bitXor n b) e ∙ xor-self b) ∙ sym (eq-eqb a b e)
-    by (no e) = ne-eqb (bitXor a b) 0 (λ z. e (xor-zero a b z)) ∙ sym (ne-eqb a b e)
-
-or-none : (a b : ℕ) → eqb (bitOr a b) 0 ≡ (eqb a 0 && eqb b 0)
-or-none zero b = ap (λ (n : ℕ). eqb n 0) (or-zero-l b)
-or-none (suc a) b = ne-eqb (bitOr (suc a) b) 0 (λ e. omega (arith, or-add-and (suc a) b, and-le-r (suc a) b, e)) ∙ sym (ap (λ (c : Bool). c && eqb b 0) (ne-eqb (suc a) 0 (λ e. omega arith)))
-
-pub same-more : (p : ℕ → Bool) (d a b i : ℕ) → eqb d 0 ≡ everyOf p (upTo i) → p i ≡ eqb a b → eqb (bitOr d (bitXor a b)) 0 ≡ everyOf p (upTo (i + 1))
-same-more p d a b i e q = or-none d (bitXor a b) ∙ ap₂ _&&_ e (xor-same a b ∙ sym q) ∙ sym (all-more p i)
-
--- ---- padding
-
-top-digit : (d lo P : ℕ) → d < 2 → 0 < P → eqb (d * P + lo) 0 ≡ (not (eqb d 1) && eqb lo 0)
-top-digit zero lo P h hp = ap (λ (n : ℕ). eqb n 0) (zero-add-mul lo)
-  where
-    zero-add-mul : (lo : ℕ) → 0 * P + lo ≡ lo
-    zero-add-mul lo = omega arith
-top-digit (suc zero) lo P h hp = ne-eqb (1 * P + lo) 0 (λ e. omega arith)
-top-digit (suc (suc d)) lo P h hp = absurd (omega arith)
-
--- k pixels from x on, the lowest k bits of v, are background
-padding-byte : (p : ℕ → Bool) (v x k : ℕ) → ((i : ℕ) → i < k → p (x + i) ≡ bit v (k - suc i))
-    → everyOf (λ c. not (p c)) (tabulate (λ c. c) x k) ≡ eqb (v % 2 ^ k) 0
-unfolding tabulate
-padding-byte p v x zero f = sym (ap (λ (n : ℕ). eqb n 0) (mod-one v))
-padding-byte p v x (suc k) f =
-    let q : suc k ≡ 1 + k = omega arith in
-    let z : suc k - 1 ≡ k = omega arith in
-    ap₂ (λ (a b : Bool). not a && b) (ap p (sym (add-zero x)) ∙ f 0 (zero-lt-suc k) ∙ ap (bit v) z)
-    (padding-byte p v (suc x) k (λ i l. let w : suc k - suc (suc i) ≡ k - suc i = omega arith in ap p (suc-add x i ∙ sym (add-suc x i)) ∙ f (suc i) (omega arith) ∙ ap (bit v) w))
-    ∙ sym (top-digit (v / 2 ^ k % 2) (v % 2 ^ k) (2 ^ k) (mod-lt (v / 2 ^ k) (zero-lt-suc 1)) (pow-pos k))
-    ∙ sym (ap (λ (n : ℕ). eqb n 0) (ap (λ (j : ℕ). v % 2 ^ j) q ∙ mod-pow-add v 1 k))
-
--- the last byte of row y, and its padding
-abbrev pub lastClean : List ℕ → ℕ → ℕ → ℕ → Bool
-lastClean s r m y = eqb (getD s (y * r + (r - 1)) 0 % m) 0
-
-pub clean-last : (W H r : ℕ) (s : List ℕ) → r ≡ stride W → 1 ≤ W → isClean W H s ≡ everyOf (lastClean s r (2 ^ (r * 8 - W))) (upTo H)
-unfolding isClean pixel bitOf stride
-clean-last W H r s q h = (λ i. everyOf (λ y. line y i) (upTo H))
-  where
-    line : (y : ℕ) → everyOf (λ x. not (pixel W s x y)) (tabulate (λ x. x) W (stride W * 8 - W)) ≡ lastClean s r (2 ^ (r * 8 - W)) y
-    line y =
-        ap (λ (n : ℕ). everyOf (λ x. not (pixel W s x y)) (tabulate (λ x. x) W (n * 8 - W))) (sym q)
-        ∙ padding-byte (λ x. pixel W s x y) (getD s (y * r + (r - 1)) 0) W (r * 8 - W)
-        (λ i l.
-        let a : (W + i) / 8 ≡ r - 1 = omega arith in
-        let b : 7 - (W + i) % 8 ≡ r * 8 - W - suc i = omega arith in
-        ap₂ (λ (u v : ℕ). eqb (getD s (y * u + (W + i) / 8) 0 / 2 ^ v % 2) 1) (sym q) b
-        ∙ ap (λ (u : ℕ). eqb (getD s (y * r + u) 0 / 2 ^ (r * 8 - W - suc i) % 2) 1) a)
-
-pub one-shl : (k : ℕ) → k < 8 → (1 * 2 ^ k) % 2 ^ 8 ≡ 2 ^ k
-one-shl k h = below8 (λ (k : ℕ). (1 * 2 ^ k) % 2 ^ 8 ≡ 2 ^ k) refl refl refl refl refl refl refl refl k h
-
-pub one-shl-pos : (k : ℕ) → k < 8 → 0 < (1 * 2 ^ k) % 2 ^ 8
-one-shl-pos k h = subst (λ (n : ℕ). 0 < n) (sym (one-shl k h)) (pow-pos k)
-
-pub padding-lt : (W r : ℕ) → r ≡ stride W → 1 ≤ W → W ≤ maxFrame → (r * 8 - W < 8) × (W ≤ r * 8) × (1 ≤ r) × (r ≤ maxStride)
-unfolding stride
-padding-lt W r q h l = (omega arith, omega arith, omega arith, omega arith)
-
-pub clean-with : (W H r : ℕ) (s : List ℕ) → r ≡ stride W → 1 ≤ W → W ≤ maxFrame
-    → isClean W H s ≡ everyOf (lastClean s r ((1 * 2 ^ (r * 8 - W)) % 2 ^ 8)) (upTo H)
-clean-with W H r s q h l = clean-last W H r s q h ∙ ap (λ (m : ℕ). everyOf (lastClean s r m) (upTo H)) (sym (one-shl (r * 8 - W) (padding-lt W r q h l .0)))
+-- pieces that fill what is between them
+pub apart-whole : (l : List ℕ) (p o n : ℕ) → onesApart l p p o n ≡ onesOf (take (n * p) (drop o l))
+unfolding onesApart onesOf
+apart-whole l p o zero = rw zero-mul
+apart-whole l p o (suc n) =
+    let q : p + n * p ≡ suc n * p = omega (arith, suc-mul n p) in
+    ap (λ (m : ℕ). onesOf (take p (drop o l)) + m) (apart-whole l p (o + p) n) ∙ sym (ones-part l o p (n * p))
+    ∙ ap (λ (m : ℕ). onesOf (take m (drop o l))) q

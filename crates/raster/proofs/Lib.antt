@@ -2,6 +2,7 @@ pub mod ByteLaws
 pub mod LoopLaws
 pub mod RowLaws
 pub mod PartLaws
+pub mod BufferLaws
 pub mod CountLaws
 pub mod PlaneLaws
 pub mod PackLaws

@@ -1,10 +1,9 @@
 -- Rows of packed pixels, and bytes written into a buffer. Definitions only; proofs/ has the laws.
 use mathlib.Core.Bool.{Bool, _&&_, _||_, cond, false, not, true}
-use mathlib.Core.List.{List, [], _++_, _∷_}
+use mathlib.Core.List.{List, _++_}
 use mathlib.Core.Path.{_≡_}
 use Prim.Native.Nat.{_%_, _*_, _+_, _/_, _<_, _≤_, ℕ}
 use lib.Bits.{bitAnd, bitOr}
-use lib.Count.{ones}
 use lib.ListN.{drop, getD, length, take}
 use Rattle.morphology.specs.Image.{bitOf}
 
@@ -56,13 +55,3 @@ pub record PlaneIs (p r m : ℕ) (old new : List ℕ) (g : ℕ → ℕ → Bool)
   pub before : (j : ℕ) → j < p → getD new j 0 ≡ getD old j 0
   pub after : (j : ℕ) → p + m * r ≤ j → getD new j 0 ≡ getD old j 0
   pub pixels : (y x : ℕ) → y < m → x < 8 * r → rowBit new (8 * (p + y * r) + x) ≡ g y x
-
--- the sum of a list
-unfoldable pub sumOf : List ℕ → ℕ
-sumOf [] = 0
-sumOf (b ∷ l) = b + sumOf l
-
--- the ones of each byte of s added to the sum at its place
-pub record Summed (s old new : List ℕ) : Type 0 where
-  pub size : length new ≡ length old
-  pub places : (j : ℕ) → j < length old → getD new j 0 ≡ getD old j 0 + ones (getD s j 0)

@@ -1,16 +1,18 @@
 // Rows and planes of packed pixels.
 pub mod bands;
+mod counts;
 
+pub use counts::count_ones;
 ghost use mathlib.Core.Path.{_≡_};
 ghost use mathlib.Core.Bool.{_&&_, not};
 ghost use mathlib.Core.List.{_++_};
-ghost use Prim.Native.Nat.{ℕ, _+_, _*_, _<_, _≤_, _^_};
+ghost use Prim.Native.Nat.{_+_, _*_, _<_, _≤_};
 ghost use lib.Dec.{leb, ltb, eqb};
 ghost use lib.ListN.{length, getD, replicate, take, drop};
-ghost use Rattle.morphology.specs.Image.{bitOf, stride, isClean, onesOf};
+ghost use Rattle.morphology.specs.Image.{bitOf, stride, isClean};
 ghost use Rattle.morphology.specs.Lists.{everyOf, someOf, upTo};
 ghost use Rattle.raster.specs.Limits.{maxFrame, maxStride};
-ghost use Rattle.raster.specs.Rows.{rowBit, readBit, exchangeByte, joinByte, Pixelwise, RowIs, RowJoined, Summed, sumOf};
+ghost use Rattle.raster.specs.Rows.{rowBit, readBit, exchangeByte, joinByte, Pixelwise, RowIs, RowJoined};
 
 // The sides of the largest frame that the buffers serve, and the bytes of its rows.
 pub const MAX_FRAME: usize = 1024;
@@ -151,88 +153,6 @@ pub fn subtract(src: &[u8], dst: &mut [u8])
         dst[i] = dst[i] & (src[i] ^ 255);
         i = i + 1;
     }
-}
-
-// The number of ones in few bytes: it fits a byte.
-fn count_part(s: &[u8]) -> u8
-    requires { ⌜ length (now s) ≤ 16 ⌝ }
-    ensures { λ r. ⌜ (r ≡ onesOf (now (s .entry))) × (r ≤ 128) ⌝ }
-{
-    let mut n: u8 = 0;
-    let mut i: usize = 0;
-    while i < s.len() {
-        n = n + u8::count_ones(s[i]) as u8;
-        i = i + 1;
-    }
-    n
-}
-
-// The number of ones in some bytes, 16 at a time.
-fn count_few(s: &[u8]) -> u32
-    requires { ⌜ length (now s) < 2 ^ 20 ⌝ }
-    ensures { λ r. ⌜ (r ≡ onesOf (now (s .entry))) × (r ≤ 8 * length (now (s .entry)) + 128) ⌝ }
-{
-    let mut n: u32 = 0;
-    let mut i: usize = 0;
-    while i + 16 <= s.len() {
-        n = n + count_part(&s[i..i + 16]) as u32;
-        i = i + 16;
-    }
-    n + count_part(&s[i..]) as u32
-}
-
-// Adds the ones of each byte of s to the sum at its place.
-fn add_ones(s: &[u8], sums: &mut [u8])
-    requires { ⌜ (length (now s) ≡ length (now sums)) × ((j : ℕ) → getD (now sums) j 0 ≤ 247) ⌝ }
-    ensures { λ _. ⌜ Summed (now (s .entry)) (now (sums .entry)) (now (sums .exit)) ⌝ }
-{
-    let mut i: usize = 0;
-    while i < sums.len() {
-        sums[i] = sums[i] + u8::count_ones(s[i]) as u8;
-        i = i + 1;
-    }
-}
-
-// The sum of some bytes.
-fn sum_of(s: &[u8]) -> u32
-    requires { ⌜ length (now s) ≤ 1024 ⌝ }
-    ensures { λ r. ⌜ r ≡ sumOf (now (s .entry)) ⌝ }
-{
-    let mut n: u32 = 0;
-    let mut i: usize = 0;
-    while i < s.len() {
-        n = n + s[i] as u32;
-        i = i + 1;
-    }
-    n
-}
-
-// The number of ones in at most 31 times 64 bytes: 64 sums of a byte each, which do not overflow, and what is left over.
-fn count_block(s: &[u8]) -> u32
-    requires { ⌜ length (now s) ≤ 1984 ⌝ }
-    ensures { λ r. ⌜ (r ≡ onesOf (now (s .entry))) × (r ≤ 17856) ⌝ }
-{
-    let mut sums = [0u8; 64];
-    let mut i: usize = 0;
-    while i + 64 <= s.len() {
-        add_ones(&s[i..i + 64], &mut sums);
-        i = i + 64;
-    }
-    sum_of(&sums) + count_few(&s[i..])
-}
-
-// The number of ones in the bytes of s.
-pub fn count_ones(s: &[u8]) -> u32
-    requires { ⌜ length (now s) < 2 ^ 20 ⌝ }
-    ensures { λ r. ⌜ r ≡ onesOf (now (s .entry)) ⌝ }
-{
-    let mut n: u32 = 0;
-    let mut i: usize = 0;
-    while i + 1984 <= s.len() {
-        n = n + count_block(&s[i..i + 1984]);
-        i = i + 1984;
-    }
-    n + count_block(&s[i..])
 }
 
 // Whether a byte of s is not 0.

@@ -5,7 +5,7 @@ use Prim.Native.Nat.{_+_, _-_, _≤_}
 use native.Mathlib.Omega.{arith}
 use denote.Ref.{now}
 use lib.ListN.{getD}
-use Rattle.raster.proofs.CountLaws.{copied-down}
+use Rattle.raster.proofs.BufferLaws.{copied-down}
 use Rattle.raster.proofs.LoopLaws.{Mapped, mapped-more, mapped-none}
 use Rattle.raster.proofs.copy_down.Statement.{statement}
 use Rattle.raster.proofs.copy_down.Tie as tie

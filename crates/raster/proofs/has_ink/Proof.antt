@@ -2,7 +2,7 @@
 -- The invariant: seen is not 0 exactly where one of the first i bytes is not. The measure is the bytes left.
 use Prim.Native.Nat.{_-_, _≤_, ℕ}
 use Rattle.morphology.specs.Lists.{someOf}
-use Rattle.raster.proofs.CountLaws.{ink-more}
+use Rattle.raster.proofs.BufferLaws.{ink-more}
 use denote.Ref.{now}
 use lib.Dec.{eqb}
 use lib.ListN.{length, take}

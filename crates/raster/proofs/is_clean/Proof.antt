@@ -3,7 +3,7 @@
 use Prim.Native.Nat.{_%_, _*_, _-_, _^_, _≤_, ℕ}
 use Rattle.morphology.specs.Lists.{everyOf, upTo}
 use Rattle.morphology.specs.Lists.{tabulate}
-use Rattle.raster.proofs.CountLaws.{all-more, all-not, clean-with, lastClean, one-shl-pos, padding-lt}
+use Rattle.raster.proofs.BufferLaws.{all-more, all-not, clean-with, lastClean, one-shl-pos, padding-lt}
 use Rattle.raster.proofs.RowLaws.{row-in}
 use borrow.Author.Tests.{eq-eqb, ne-eqb}
 use denote.Ref.{now}

@@ -3,7 +3,7 @@
 use Prim.Native.Nat.{_+_, _-_, _≤_, ℕ}
 use Rattle.morphology.specs.Lists.{everyOf, upTo}
 use Rattle.morphology.specs.Lists.{tabulate}
-use Rattle.raster.proofs.CountLaws.{same-more}
+use Rattle.raster.proofs.BufferLaws.{same-more}
 use denote.Ref.{now}
 use lib.Dec.{eqb}
 use lib.ListN.{getD}
