@@ -11,6 +11,7 @@ mod thin;
 
 pub use decode::decode;
 pub use encode::{encode, Coded};
+pub use frame::area;
 pub use minimise::minimise;
 pub use planes::{dilate_plane, erode_plane};
 pub use skeleton::{decompose, erode, open, reconstruct, Skeleton};

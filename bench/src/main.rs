@@ -3,6 +3,7 @@
 
 mod codes;
 mod compare;
+mod counts;
 mod growth;
 #[cfg_attr(not(leptonica), path = "leptonica_absent.rs")]
 mod leptonica;
@@ -51,6 +52,7 @@ fn main() {
         }
     }
     codes::table();
+    counts::table();
     growth::tables();
 }
 

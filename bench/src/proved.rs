@@ -1,39 +1,13 @@
-//! The proved functions, linked as a static library: one function makes any call, by the
-//! operation's number, with x to read and y, z and c to write (`crates/replay/src/main.rt` has the
-//! table). A slice goes as a pointer and a length. Each answers one number or is refused:
+//! The proved functions, each by its number (`library`). Each answers one number or is refused:
 //! `decompose` and `minimise` answer the points, `thin` the passes, `encode` the bytes of the
 //! stream, the others the area. What is decoded here has a largest size: no input is blank.
 
-/// An answer whole; what is timed needs only its first value.
-#[repr(C)]
-#[allow(dead_code)]
-struct Reply {
-    refusal: u8,
-    count: u8,
-    first: u32,
-    second: u32,
-    third: u32,
-}
-
-#[rustfmt::skip]
-#[link(name = "calls", kind = "static")]
-extern "C" {
-    fn call(
-        op: u8, w: u32, h: u32, a: u32, b: u32,
-        x: *const u8, x_len: usize, y: *mut u8, y_len: usize, z: *mut u8, z_len: usize, c: *mut u16, c_len: usize,
-    ) -> Reply;
-}
+use library::call;
 
 /// Makes a call; the first value, or the number of the refusal.
 #[rustfmt::skip]
-fn first(op: u8, [w, h, a, b]: [u32; 4], x: &[u8], y: &mut [u8], z: &mut [u8], c: &mut [u16]) -> Result<u32, u8> {
-    // The pointers and lengths are those of slices that outlive the call.
-    let reply = unsafe {
-        call(
-            op, w, h, a, b,
-            x.as_ptr(), x.len(), y.as_mut_ptr(), y.len(), z.as_mut_ptr(), z.len(), c.as_mut_ptr(), c.len(),
-        )
-    };
+fn first(op: u8, numbers: [u32; 4], x: &[u8], y: &mut [u8], z: &mut [u8], c: &mut [u16]) -> Result<u32, u8> {
+    let reply = call(op, numbers, x, y, z, c);
     match reply.refusal {
         0 => Ok(reply.first),
         refusal => Err(refusal),
