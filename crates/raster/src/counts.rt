@@ -1,7 +1,7 @@
 // Ones counted by words of eight bytes, seven words at a time.
 ghost use mathlib.Core.Path.{_≡_};
 ghost use Prim.Native.Nat.{_+_, _*_, _%_, _<_, _≤_, _^_};
-ghost use lib.Count.{ones as onesIn};
+ghost use lib.Count.{ones};
 ghost use lib.ListN.{length, take};
 ghost use Rattle.morphology.specs.Image.{onesOf};
 ghost use Rattle.raster.specs.Counts.{Gathered, onesApart};
@@ -13,8 +13,8 @@ struct Sums {
 }
 
 // The number of ones in a word.
-fn ones(v: u64) -> u64
-    ensures { λ r. ⌜ (r ≡ onesIn v) × (r ≤ 64) ⌝ }
+fn count_word(v: u64) -> u64
+    ensures { λ r. ⌜ (r ≡ ones v) × (r ≤ 64) ⌝ }
 {
     u64::count_ones(v) as u64
 }
@@ -52,7 +52,7 @@ fn word(s: &[u8], i: usize) -> u64
 
 // Three words added place by place.
 fn add_three(a: u64, b: u64, c: u64) -> Sums
-    ensures { λ r. ⌜ onesIn (r .low) + 2 * onesIn (r .high) ≡ onesIn a + onesIn b + onesIn c ⌝ }
+    ensures { λ r. ⌜ ones (r .low) + 2 * ones (r .high) ≡ ones a + ones b + ones c ⌝ }
 {
     let x = a ^ b;
     Sums {
@@ -64,7 +64,7 @@ fn add_three(a: u64, b: u64, c: u64) -> Sums
 // Three words, p bytes apart, the first at i, added place by place.
 fn add_apart(s: &[u8], p: usize, i: usize) -> Sums
     requires { ⌜ i + 2 * p + 8 ≤ length (now s) ⌝ }
-    ensures { λ r. ⌜ onesIn (r .low) + 2 * onesIn (r .high) ≡ onesApart (now (s .entry)) p 8 i 3 ⌝ }
+    ensures { λ r. ⌜ ones (r .low) + 2 * ones (r .high) ≡ onesApart (now (s .entry)) p 8 i 3 ⌝ }
 {
     add_three(word(s, i), word(s, i + p), word(s, i + p + p))
 }
@@ -78,7 +78,7 @@ fn count_apart(s: &[u8], p: usize, i: usize) -> u64
     let b = add_apart(s, p, i + 3 * p);
     let one = add_three(a.low, b.low, word(s, i + 6 * p));
     let two = add_three(a.high, b.high, one.high);
-    ones(one.low) + 2 * ones(two.low) + 4 * ones(two.high)
+    count_word(one.low) + 2 * count_word(two.low) + 4 * count_word(two.high)
 }
 
 // The number of ones in seven parts of p bytes, a word of each part at a time.
@@ -104,17 +104,17 @@ fn count_few(s: &[u8]) -> u64
     let mut n: u64 = 0;
     let mut i: usize = 0;
     while i < whole {
-        n = n + ones(word(s, i));
+        n = n + count_word(word(s, i));
         i = i + 8;
     }
     while i < s.len() {
-        n = n + ones(wide(s[i]));
+        n = n + count_word(wide(s[i]));
         i = i + 1;
     }
     n
 }
 
-// The number of ones in the bytes of s: seven parts of whole words, four at a time, and what is left.
+// The number of ones in the bytes of s: in seven parts of equal length, a multiple of four words, and in what is left.
 pub fn count_ones(s: &[u8]) -> u32
     requires { ⌜ length (now s) < 2 ^ 20 ⌝ }
     ensures { λ r. ⌜ r ≡ onesOf (now (s .entry)) ⌝ }

@@ -30,14 +30,14 @@ loop-holds c = (omega arith, refl, refl, omega arith)
 loop-again : tie.Need-loop-again Inv-loop μ-loop Inv-loop2 μ-loop2
 loop-again c =
     let l = c .before .before .before .loop in
-    (omega arith, omega arith, ap (λ (m : ℕ). l .n + m) (c .ones .ensures .0) ∙ gathered-more (c .before .word .ensures) (l .inv .2), omega arith)
+    (omega arith, omega arith, ap (λ (m : ℕ). l .n + m) (c .count-word .ensures .0) ∙ gathered-more (c .before .word .ensures) (l .inv .2), omega arith)
 
 loop2-again : tie.Need-loop2-again Inv-loop μ-loop Inv-loop2 μ-loop2
 loop2-again c =
     let l = c .before .before .before .before .loop2 in
     let b = c .before .wide .ensures in
     let g = gathered-byte {l = now (c .before .before .before .before .before .before .before .before .args .s)} {i = l .i} (omega arith) (b .0) (b .1) in
-    (omega arith, ap (λ (m : ℕ). l .n + m) (c .ones2 .ensures .0) ∙ gathered-more g (l .inv .1), omega arith)
+    (omega arith, ap (λ (m : ℕ). l .n + m) (c .count-word2 .ensures .0) ∙ gathered-more g (l .inv .1), omega arith)
 
 returns : tie.Need-returns Inv-loop μ-loop Inv-loop2 μ-loop2
 returns c =
