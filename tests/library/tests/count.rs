@@ -16,7 +16,7 @@ fn bit_by_bit(bytes: &[u8]) -> u32 {
     ones
 }
 
-/// Some bytes, all ones, and what a seed gives.
+/// Few ones, all ones, and what a seed gives.
 fn contents(rng: &mut Rng, len: usize) -> [Vec<u8>; 3] {
     let few = (0..len).map(|_| (rng.one_in(16) as u8) << rng.below(8));
     [few.collect(), vec![0xff; len], rng.bytes(len)]
@@ -81,14 +81,17 @@ fn every_width_1_to_255() {
 
 /// Erosion and opening by 0B leave the image; thinning removes what it does not leave.
 fn areas(w: u32, h: u32, image: &[u8], area: u32, title: &str) {
-    let (mut out, mut work) = (image.to_vec(), vec![0xa5; 3 * image.len()]);
+    let mut work = vec![0xa5; 3 * image.len()];
+    let mut out = vec![0; image.len()];
     for op in [0, 1] {
+        out.fill(0x5a);
         let reply = call(op, [w, h, SQUARE, 0], image, &mut out, &mut work, &mut []);
         assert_eq!(
             (reply.refusal, reply.first),
             (0, area),
             "{title}: operation {op}"
         );
+        assert!(out == image, "{title}: another image, operation {op}");
     }
     let reply = call(6, [w, h, 0, 0], &[], &mut out, &mut work, &mut []);
     let (removed, left) = (reply.second, reply.third);
