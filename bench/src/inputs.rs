@@ -29,6 +29,14 @@ pub fn images() -> [(&'static str, Vec<u8>); 5] {
     ]
 }
 
+/// What is thinned: the images, and a block that keeps one pixel off each edge. A sheet all ink
+/// stays whole after one pass; the block takes many.
+pub fn thinned() -> Vec<(&'static str, Vec<u8>)> {
+    let inner = 1..SIDE as usize - 1;
+    let block = image(|x, y| inner.contains(&x) && inner.contains(&y));
+    images().into_iter().chain([("block", block)]).collect()
+}
+
 /// An image with its name and sides.
 pub struct Scan {
     pub name: &'static str,

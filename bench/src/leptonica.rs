@@ -1,7 +1,7 @@
 //! The same operations by Leptonica. It is told that the outside is background, and its results
 //! are compared with the proved ones. It has no decomposition, no reconstruction at a cut and no
-//! thinning by the house set: those are written here with its calls. Its own thinning is another
-//! operation.
+//! thinning by the house set: those are written here with its calls. What its hit-or-miss hits at
+//! the edge is cleared. Its own thinning is another operation.
 
 use crate::compare::Other;
 use bench::baseline::GOLAY_L;
@@ -22,6 +22,7 @@ const MISS: i32 = 2;
 /// The outside is OFF for erosion as well as for dilation.
 const ASYMMETRIC: i32 = 1;
 const THIN_FG: i32 = 1;
+const CLEAR: i32 = 0;
 /// No message, for composite bricks that cannot be had.
 const SILENT: i32 = 6;
 
@@ -48,6 +49,7 @@ extern "C" {
     fn pixErodeCompBrick(to: P, from: P, across: i32, down: i32) -> P;
     fn pixOpenCompBrick(to: P, from: P, across: i32, down: i32) -> P;
     fn pixHMT(to: P, from: P, sel: *mut Sel) -> P;
+    fn pixSetOrClearBorder(pix: P, left: i32, right: i32, top: i32, bottom: i32, op: i32) -> i32;
     fn pixSubtract(to: P, from: P, less: P) -> P;
     fn pixOr(to: P, one: P, other: P) -> P;
     fn pixSetMasked(pix: P, mask: P, value: u32) -> i32;
@@ -326,7 +328,7 @@ pub fn reconstruct(element: u32, cut: u32, labels: &[u8]) -> Option<Other> {
     })
 }
 
-/// Thinning by the house set with Leptonica's hit-or-miss.
+/// Thinning by the house set with Leptonica's hit-or-miss, but for its hits at the edge.
 pub fn thin(image: &[u8]) -> Option<Other> {
     let from = Image::of(1, |x, y| pixel(image, x, y));
     let kind = |(fg, bg): (u32, u32), bit: i32| match (fg >> bit & 1, bg >> bit & 1) {
@@ -344,6 +346,7 @@ pub fn thin(image: &[u8]) -> Option<Other> {
             for mask in masks {
                 unsafe {
                     pixHMT(hits.pix.get(), out.pix.get(), mask);
+                    pixSetOrClearBorder(hits.pix.get(), 1, 1, 1, 1, CLEAR);
                     pixSubtract(out.pix.get(), out.pix.get(), hits.pix.get());
                 }
             }

@@ -10,7 +10,7 @@ mod leptonica;
 mod proved;
 
 use bench::baseline;
-use bench::inputs::{images, scans, ELEMENTS, SIDE};
+use bench::inputs::{images, scans, thinned, ELEMENTS, SIDE};
 use compare::{compare, heading, Lent};
 
 /// The n of erosions and openings.
@@ -38,7 +38,7 @@ fn main() {
             minimise([input, name], element, &image);
         }
     }
-    for (input, image) in images() {
+    for (input, image) in thinned() {
         thin(input, &image);
     }
     for scan in scans() {

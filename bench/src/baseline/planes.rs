@@ -1,16 +1,33 @@
 //! One erosion, dilation or hit-or-miss of a whole plane: each row is moved by each offset
-//! and combined with the row that the offset leads to.
+//! and combined with the row that the offset leads to. Nothing at the frame's edge is hit.
 
 use super::frame::{Frame, Offsets, MAX_STRIDE};
 
 /// Erosion of a plane by an element: every z with z+b in the plane for all b.
 pub fn erode_plane(frame: Frame, element: &Offsets, plane: &[u8], out: &mut [u8]) {
-    hit_or_miss_plane(frame, element, &Offsets::NONE, plane, out);
+    join_rows(frame, element, &Offsets::NONE, plane, out);
+    // Here an offset leads out of the frame.
+    let rows = |count: isize| (count as usize).min(frame.height) * frame.stride;
+    out[..rows(-element.top)].fill(0);
+    out[frame.plane_bytes - rows(element.bottom)..].fill(0);
 }
 
-/// The points of a plane where all offsets of fg, the centre among them, fall on foreground
-/// and all of bg on background.
+/// The points of a plane, none at the frame's edge, where all offsets of fg, the centre among
+/// them, fall on foreground and all of bg on background.
 pub fn hit_or_miss_plane(frame: Frame, fg: &Offsets, bg: &Offsets, plane: &[u8], out: &mut [u8]) {
+    join_rows(frame, fg, bg, plane, out);
+    out[..frame.stride].fill(0);
+    out[frame.plane_bytes - frame.stride..].fill(0);
+    let but_the_last = frame.last_byte() << 1;
+    for row in out.chunks_exact_mut(frame.stride) {
+        row[0] &= 0x7f;
+        row[frame.stride - 1] &= but_the_last;
+    }
+}
+
+/// The points of a plane where all offsets of fg and the centre fall on foreground and all of bg
+/// on background; an offset that leads above or below the frame is passed over.
+fn join_rows(frame: Frame, fg: &Offsets, bg: &Offsets, plane: &[u8], out: &mut [u8]) {
     out.copy_from_slice(plane); // the centre
     let mut guarded = GuardedRow::new(frame);
     for (y, row) in plane.chunks_exact(frame.stride).enumerate() {
@@ -26,10 +43,6 @@ pub fn hit_or_miss_plane(frame: Frame, fg: &Offsets, bg: &Offsets, plane: &[u8],
             }
         }
     }
-    // Here an offset of fg leads out of the frame.
-    let rows = |count: isize| (count as usize).min(frame.height) * frame.stride;
-    out[..rows(-fg.top)].fill(0);
-    out[frame.plane_bytes - rows(fg.bottom)..].fill(0);
 }
 
 /// Dilation of a plane by an element: every x+b.

@@ -2,7 +2,7 @@
 
 use super::frame::{Frame, Offsets};
 use super::*;
-use crate::inputs::{images, scans, Scan, ELEMENTS, SIDE};
+use crate::inputs::{images, scans, thinned, Scan, ELEMENTS, SIDE};
 use reference::cases::{self, Call};
 use reference::rng::Rng;
 use reference::{Answer, Mark};
@@ -111,12 +111,7 @@ fn timed_inputs() {
     for (name, image) in images() {
         let work = vec![0xa5; 3 * image.len()];
         let out = vec![0xa5; image.len()];
-        let mut calls = vec![Call::Thin {
-            w,
-            h,
-            image: image.clone(),
-            work: work.clone(),
-        }];
+        let mut calls = vec![];
         for (_, element) in ELEMENTS {
             let mut labels = vec![0; (w * h) as usize];
             reference::decompose(w, h, element, &image, &mut labels, &mut work.clone());
@@ -134,6 +129,11 @@ fn timed_inputs() {
         for call in calls {
             assert!(run(&call) == cases::run(&call), "{name}");
         }
+    }
+    for (name, image) in thinned() {
+        let work = vec![0xa5; 3 * image.len()];
+        let call = Call::Thin { w, h, image, work };
+        assert!(run(&call) == cases::run(&call), "{name}");
     }
     for Scan { name, w, h, image } in scans() {
         for (_, element) in ELEMENTS {

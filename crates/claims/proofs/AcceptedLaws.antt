@@ -82,7 +82,7 @@ module _ (W H e : ℕ) where
   minimised-accepted labels work counters h = accepted (minimiseRows W H e labels work counters) (labels ∷ work ∷ counters ∷ []) _ tt h
 
 pub hit-accepted : (W H : ℕ) (m : ℕ × ℕ) (image out : List ℕ) → hitOrMiss W H m image out .answer .refusal ≡ 0
-    → let X = hit m (imageSet W H image) in
+    → let X = hit W H m (imageSet W H image) in
     Accepted (hitRows W H m image out) (hitOrMiss W H m image out) (outcome (foreground (area W H X)) (pack W H X ∷ []))
 unfolding hitOrMiss
 hit-accepted W H m image out h = accepted (hitRows W H m image out) (out ∷ []) _ tt h

@@ -13,9 +13,12 @@ use lib.ListN.{getD}
 use Rattle.claims.specs.Claims.{
   Buffers,
   CutIsOpening,
+  EdgeStays,
+  HitsExactly,
   Image,
   LabelsAreSizes,
   LabelsStay,
+  NarrowStays,
   RebuildIsExact,
   RebuildsTheUnion,
   RefusesExactly,
@@ -29,13 +32,13 @@ use Rattle.claims.specs.Claims.{
   ThinningStops,
   WritesImages,
 }
-use Rattle.claims.specs.Formula.{HasSize, Ink, Offset}
+use Rattle.claims.specs.Formula.{HasSize, Ink, Offset, Within}
 use Rattle.claims.specs.Sieves.{accepted, isRefused, largestCut, rebuilt, sieveAll, sieveRefused, takenApart}
 use Rattle.reading.proofs.OwnFacts.{length-labels}
 use Rattle.morphology.specs.Answers.{Outcome, foreground, outcome, output, thinned}
 use Rattle.morphology.specs.Element.{isElement, isMask, offsets}
-use Rattle.morphology.specs.Image.{imageSet, pack}
-use Rattle.morphology.specs.Labels.{area}
+use Rattle.morphology.specs.Image.{imageSet, onFrame, pack}
+use Rattle.morphology.specs.Labels.{area, places}
 use Rattle.morphology.specs.Lists.{greatest}
 use Rattle.morphology.specs.Minimal.{minimalLabels}
 use Rattle.morphology.specs.Morphology.{erode, opening, times}
@@ -61,7 +64,7 @@ use Rattle.morphology.specs.Operations.{
 use Rattle.morphology.specs.Point.{Point, at}
 use Rattle.morphology.specs.Refusals.{firstRefusal, isSide, maxSide}
 use Rattle.morphology.specs.Skeleton.{reconstruction, skeletonLabels, skeletonSubset}
-use Rattle.morphology.specs.Thinning.{hit}
+use Rattle.morphology.specs.Thinning.{Thinned, hit, interior}
 use Rattle.claims.proofs.AcceptedLaws.{
   Accepted,
   decomposed-accepted,
@@ -72,26 +75,40 @@ use Rattle.claims.proofs.AcceptedLaws.{
   reconstructed-accepted,
   thinned-accepted,
 }
-use Rattle.claims.proofs.FormulaLaws.{covered-in, covered-out, image-is, ink-in, ink-out, offsets-are, size-in, size-out}
+use Rattle.claims.proofs.FormulaLaws.{
+  covered-in,
+  covered-out,
+  every-in,
+  within-is,
+  hit-in,
+  hit-out,
+  image-is,
+  ink-in,
+  ink-out,
+  offsets-are,
+  size-in,
+  size-out,
+}
 use Rattle.claims.proofs.RowLaws.{refuses}
 use Rattle.claims.proofs.ShorteningLaws.{shortening}
 use Rattle.claims.proofs.SieveLaws.{sieves-open}
 use Rattle.claims.proofs.StopLaws.{passes-stop}
 use Rattle.claims.proofs.WritingLaws.{erode-part, packed-writes, thinned-image}
 use Rattle.morphology.proofs.Cases.{settled}
+use Rattle.morphology.proofs.CountLaws.{count-none}
 use Rattle.morphology.proofs.CoverLaws.{size-zero}
 use Rattle.morphology.proofs.ElementLaws.{Element, element}
 use Rattle.morphology.proofs.FrameLaws.{OnFrame}
 use Rattle.morphology.proofs.ImageLaws.{image-on, image-pack}
 use Rattle.morphology.proofs.LabelLaws.{of-places, on-places}
 use Rattle.morphology.proofs.MorphologyLaws.{eroded-zero, open-zero, ⊆-of-eq}
-use Rattle.morphology.proofs.PlaneLaws.{byte-lt, on-sub, plane-back}
+use Rattle.morphology.proofs.PlaneLaws.{Empty, byte-lt, on-sub, pack-empty, plane-back}
 use Rattle.morphology.proofs.ReconstructLaws.{reconstruction-on}
 use Rattle.morphology.proofs.RefusalLaws.{Clear, T-of-not, decompose-passes, false-of, good, reconstruct-passes, side-le, unless-in}
 use Rattle.morphology.proofs.SkeletonLaws.{label-above, label-formula, labels-le, open-on, reconstruction-open, skeleton-tame}
 use Rattle.morphology.proofs.SubsetLaws.{eroded-down, subset-in}
-use Rattle.morphology.proofs.TestLaws.{and-l, and-r}
-use Rattle.morphology.proofs.ThinningLaws.{hit-part, less, thin-enough, thin-idle}
+use Rattle.morphology.proofs.TestLaws.{T-ext, and-l, and-r}
+use Rattle.morphology.proofs.ThinningLaws.{edge-hit, edge-kept, hit-part, less, narrow-interior, narrow-passes, thin-enough, thin-idle}
 
 -- ---- the settled cases
 
@@ -262,8 +279,8 @@ writes-images = record {
   hits = λ W H m image out h.
       let a = hit-accepted W H m image out h in
       let X = imageSet W H image in
-      let part = hit-part m (T-of-not (isMask m) (a .clear .1 .1 .1 .0)) X in
-      packed-writes W H (sides W H (a .clear .0)) (hit m X) _ _ (on-sub W H (hit m X) X part (image-on W H image)) (a .is);
+      let part = hit-part W H m (T-of-not (isMask m) (a .clear .1 .1 .1 .0)) X in
+      packed-writes W H (sides W H (a .clear .0)) (hit W H m X) _ _ (on-sub W H (hit W H m X) X part (image-on W H image)) (a .is);
   thinning = λ W H image work h.
       let a = thinned-accepted W H image work h in
       subst (Image W H) (sym (ap output (a .is))) (thinned-image W H (sides W H (a .clear .0)) (area W H (imageSet W H image)) image);
@@ -323,7 +340,50 @@ size-zero-stays W H e image labels work work′ counters h h′ i l q =
     ap (λ (k : List ℕ). getD k i 0) (ap output (minimised-accepted W H e m work′ counters h′ .is))
     ∙ subst (λ (k : List ℕ). getD k i 0 ≡ 1 → getD (minimalLabels W H (offsets e) k) i 0 ≡ 1) (sym p) (size-zero W H (offsets e) el X (image-on W H image) i l) q
 
+-- ---- hit-or-miss
+
+pub hits-exactly : HitsExactly
+hits-exactly W H m image out h z =
+    let a = hit-accepted W H m image out h in
+    let X = imageSet W H image in
+    let o = output (hitOrMiss W H m image out) in
+    let part = hit-part W H m (T-of-not (isMask m) (a .clear .1 .1 .1 .0)) X in
+    let e : imageSet W H o ≡ hit W H m X =
+    ap (λ (o : Outcome). imageSet W H (output o)) (a .is) ∙ image-pack W H (hit W H m X) (on-sub W H (hit W H m X) X part (image-on W H image)) in (
+      (λ i. hit-in W H m X (Ink W H image) (image-is W H image) z (⊆-of-eq e z (ink-out W H o z i))),
+      (λ i. ink-in W H o z (⊆-of-eq (sym e) z (hit-out W H m X (Ink W H image) (image-is W H image) z i))),
+    )
+
 -- ---- thinning
+
+pub edge-stays : EdgeStays
+unfolding interior
+edge-stays W H image work h z b o off =
+    let a = thinned-accepted W H image work h in
+    let left = output (thin W H image work) in
+    let e : imageSet W H left z ≡ imageSet W H image z =
+    ap (λ (o : Outcome). imageSet W H (output o) z) (a .is) ∙ edge-kept W H _ image z (T-ext (λ t. off (every-in 511 (onFrame W H) (Within W H) (within-is W H) z t b o)) absurd) in (
+      (λ i. ink-in W H image z (subst T e (ink-out W H left z i))),
+      (λ i. ink-in W H left z (subst T (sym e) (ink-out W H image z i))),
+    )
+
+pub narrow-stays : NarrowStays
+unfolding area
+narrow-stays W H n = record {
+  hits = λ m image out h.
+      let a = hit-accepted W H m image out h in
+      let X = hit W H m (imageSet W H image) in
+      let none : Empty X = λ z t. subst T (edge-hit W H m (imageSet W H image) z (narrow-interior W H n z)) t in
+      a .is ∙ ap₂ (λ (k : ℕ) (s : List ℕ). outcome (foreground k) (s ∷ [])) (count-none X (places W H) (λ z k t. none z t)) (pack-empty W H X none);
+  thinning = λ image work i h.
+      let a = thinned-accepted W H image work h in
+      let k = area W H (imageSet W H image) in
+      let zero : k - k ≡ 0 = omega arith in
+      a .is
+      ∙ ap (λ (t : Thinned). let left = area W H (imageSet W H (t .image)) in outcome (thinned (t .passes) (k - left) left) (t .image ∷ cleared W H work ∷ []))
+      (narrow-passes W H (narrow-interior W H n) k image (canonical W H image i))
+      ∙ ap (λ (j : ℕ). outcome (thinned 1 j k) (image ∷ cleared W H work ∷ [])) zero;
+}
 
 pub thinning-stops : ThinningStops
 thinning-stops W H image work h =

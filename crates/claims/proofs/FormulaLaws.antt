@@ -1,24 +1,27 @@
 -- What the tests of morphology/specs compute is the formula with "for all" and "exists".
-use mathlib.Core.Bool.{Bool, _&&_, not}
+use mathlib.Core.Bool.{Bool, _&&_, false, not}
 use mathlib.Core.List.{List, List·Memᴰ, List·Memᴰ·eq-of-singleton, List·Memᴰ·head, Memᴰ·cast}
 use mathlib.Core.Logic.{_⊎_, inl, inr}
 use mathlib.Core.Path.{_∙_, _≡_, ap, refl, subst, sym}
 use Prim.Native.Nat.{suc, zero, ℕ}
 use lib.Dec.{T, T-not, ltb, ltb→lt, lt→ltb}
 use lib.IntN.{negsuc, pos, ℤ}
-use Rattle.claims.specs.Formula.{Covered, Dilated, Eroded, Fold, HasSize, Ink, Offset, Set}
-use Rattle.morphology.specs.Element.{offset, offsets}
-use Rattle.morphology.specs.Image.{imageSet, pixel}
+use Rattle.claims.specs.Formula.{Covered, Dilated, Eroded, Fold, HasSize, Hit, Ink, MaskOffset, Offset, Set, Within}
+use Rattle.morphology.specs.Element.{maskOffsets, offset, offsets}
+use Rattle.morphology.specs.Image.{imageSet, onFrame, pixel}
 use Rattle.morphology.specs.Labels.{labelAt, places}
+use Rattle.morphology.specs.Lists.{everyOf}
 use Rattle.morphology.specs.Morphology.{dilate, erode, opening, times}
 use Rattle.morphology.specs.Point.{Point, _⊞_, at}
 use Rattle.morphology.specs.Skeleton.{reconstruction, skeletonSubset}
+use Rattle.morphology.specs.Thinning.{hit, interior}
 use Rattle.morphology.proofs.ElementLaws.{below-out, in-below}
 use Rattle.morphology.proofs.LabelLaws.{in-places, labelAt-at, of-places}
 use Rattle.morphology.proofs.MorphologyLaws.{dilate-in, dilate-out, erode-in, erode-out, sum-out, times-suc}
 use Rattle.morphology.proofs.ReconstructLaws.{label-on}
 use Rattle.morphology.proofs.SubsetLaws.{reconstruct-in, reconstruct-out}
-use Rattle.morphology.proofs.TestLaws.{and-in, and-l, and-r, decide}
+use Rattle.morphology.proofs.TestLaws.{all-in, all-out, and-in, and-l, and-r, decide}
+use Rattle.morphology.proofs.ThinningLaws.{asked}
 
 -- ---- the sheet and the element
 
@@ -59,6 +62,55 @@ offsets-are e = record { to = λ m. below-out 2 e 25 m; fro = λ o. Memᴰ·cast
 
 pub image-is : (W H : ℕ) (s : List ℕ) → Tests (imageSet W H s) (Ink W H s)
 image-is W H s = record { to = λ {z} t. ink-in W H s z t; fro = λ {z} i. ink-out W H s z i }
+
+pub mask-offsets-are : (m : ℕ) → Lists (maskOffsets m) (MaskOffset m)
+unfolding offset
+mask-offsets-are m = record { to = λ k. below-out 1 m 9 k; fro = λ o. Memᴰ·cast (o .3) (in-below 1 m 9 (o .0) (o .1) (o .2)) }
+
+pub within-is : (W H : ℕ) → Tests (onFrame W H) (Within W H)
+within-is W H = record { to = λ {z} t. on-in (z .x) (z .y) t; fro = λ {z} f. subst (λ (p : Point). T (onFrame W H p)) (sym (f .4)) (on-out f) }
+  where
+    on-in : (a b : ℤ) → T (onFrame W H (at a b)) → Within W H (at a b)
+    on-in (pos x) (pos y) t = (x, y, ltb→lt x W (and-l (ltb x W) (ltb y H) t), ltb→lt y H (and-r (ltb x W) (ltb y H) t), refl)
+    on-in (pos x) (negsuc y) t = absurd (and-r (ltb x W) false t)
+    on-in (negsuc x) b t = absurd t
+
+    on-out : {z : Point} (f : Within W H z) → T (onFrame W H (at (pos (f .0)) (pos (f .1))))
+    on-out f = and-in (ltb (f .0) W) (ltb (f .1) H) (lt→ltb (f .0) W (f .2)) (lt→ltb (f .1) H (f .3))
+
+-- every offset of a mask, and a test on what it points at
+module _ (m : ℕ) (X : Point → Bool) (Y : Set) (t : Tests X Y) (z : Point) where
+  pub every-in : T (everyOf (λ b. X (z ⊞ b)) (maskOffsets m)) → Eroded (MaskOffset m) Y z
+  every-in e b o = t .to (all-out (λ b. X (z ⊞ b)) e (mask-offsets-are m .fro o))
+
+  pub every-out : Eroded (MaskOffset m) Y z → T (everyOf (λ b. X (z ⊞ b)) (maskOffsets m))
+  every-out e = all-in (λ b. X (z ⊞ b)) (maskOffsets m) (λ b k. t .fro (e b (mask-offsets-are m .to k)))
+
+pub not-is : {X : Point → Bool} {Y : Set} → Tests X Y → Tests (λ z. not (X z)) (λ z. Y z → ⊥)
+not-is {X} {Y} t = record { to = λ {z} n y. T-not (X z) n (t .fro y); fro = λ {z} n. go n (decide (X z)) }
+  where
+    go : {z : Point} → (Y z → ⊥) → T (X z) ⊎ T (not (X z)) → T (not (X z))
+    go n (inl y) = absurd (n (t .to y))
+    go n (inr y) = y
+
+-- a hit
+module _ (W H : ℕ) (m : ℕ × ℕ) (X : Point → Bool) (Y : Set) (t : Tests X Y) (z : Point) where
+  pub hit-in : T (hit W H m X z) → Hit W H m Y z
+  unfolding hit interior
+  hit-in h =
+      let fg = everyOf (λ b. X (z ⊞ b)) (maskOffsets (m .0)) in
+      let a = and-r (interior W H z) (asked m X z) h in (
+        every-in 511 (onFrame W H) (Within W H) (within-is W H) z (and-l (interior W H z) (asked m X z) h),
+        every-in (m .0) X Y t z (and-l fg _ a),
+        every-in (m .1) (λ p. not (X p)) (λ p. Y p → ⊥) (not-is t) z (and-r fg _ a),
+      )
+
+  pub hit-out : Hit W H m Y z → T (hit W H m X z)
+  unfolding hit interior
+  hit-out h =
+      and-in (interior W H z) (asked m X z) (every-out 511 (onFrame W H) (Within W H) (within-is W H) z (h .0))
+      (and-in (everyOf (λ b. X (z ⊞ b)) (maskOffsets (m .0))) _ (every-out (m .0) X Y t z (h .1))
+      (every-out (m .1) (λ p. not (X p)) (λ p. Y p → ⊥) (not-is t) z (h .2)))
 
 module _ (B : List Point) (P : Set) (l : Lists B P) where
   pub fold-in : (n : ℕ) {c : Point} → List·Memᴰ c (times B n) → Fold P n c

@@ -44,8 +44,8 @@ module _ (W H : ℕ) (sides : T (isSide W && isSide H)) where
   unfolding thinStep
   step-image m s =
       let X = imageSet W H s in
-      let Y : Point → Bool = λ z. X z && not (hit m X z) in
-      packed-image Y (on-sub W H Y X (λ z t. and-l (X z) (not (hit m X z)) t) (image-on W H s))
+      let Y : Point → Bool = λ z. X z && not (hit W H m X z) in
+      packed-image Y (on-sub W H Y X (λ z t. and-l (X z) (not (hit W H m X z)) t) (image-on W H s))
 
   pass-image : (m : ℕ × ℕ) (ms : List (ℕ × ℕ)) (s : List ℕ) → Image W H (thinPass W H (m ∷ ms) s)
   unfolding thinPass

@@ -1,4 +1,5 @@
--- The claims of 01 as statements, on the operations as morphology/specs/Operations.antt defines them. Definitions only; proofs/Claims.antt proves each.
+-- The claims of 01, of hits and thinning as 02 moves them, as statements, on the operations as morphology/specs/Operations.antt defines them.
+-- Definitions only; proofs/Claims.antt proves each.
 use mathlib.Core.Bool.{false, true}
 use mathlib.Core.List.{List, List·Memᴰ, [], _++_, _∷_}
 use mathlib.Core.Logic.{_↔_, _≢_, _⊎_}
@@ -6,9 +7,9 @@ use mathlib.Core.Path.{_≡_}
 use Prim.Native.Nat.{_*_, _+_, _-_, _<_, _≤_, suc, zero, ℕ}
 use lib.Dec.{T}
 use lib.IntN.{pos}
-use lib.ListN.{getD, length, set}
+use lib.ListN.{getD, length, replicate, set}
 use lib.Pow.{areBytes}
-use Rattle.claims.specs.Formula.{Covered, HasSize, Ink, Offset, Set}
+use Rattle.claims.specs.Formula.{Covered, HasSize, Hit, Ink, MaskOffset, Offset, Set, Within}
 use Rattle.claims.specs.Sieves.{Sieve, accepted, largestCut, sieveAll, sieveRefused}
 use Rattle.morphology.specs.Answers.{Outcome, foreground, outcome, output, refused, thinned}
 use Rattle.morphology.specs.Cases.{Settled}
@@ -34,14 +35,14 @@ use Rattle.morphology.specs.Operations.{
   thin,
   thinRows,
 }
-use Rattle.morphology.specs.Point.{Point, at}
+use Rattle.morphology.specs.Point.{Point, _⊞_, at}
 use Rattle.morphology.specs.Refusals.{Row, firstRefusal, imageRows, isWild, maxSide}
 use Rattle.morphology.specs.Skeleton.{skeletonLabels, skeletonSubset}
 use Rattle.morphology.specs.Thinning.{golayL, thinPass, thinPasses}
 
 -- ---- the settled cases
 
--- A to E and G to L come out as 01 says.
+-- A to E and G to L come out as 01 says, J and K as 02 says.
 abbrev pub SettledCases : Type 0
 SettledCases = Settled
 
@@ -222,7 +223,31 @@ SizeZeroStays =
     minimised W H e m work′ counters .answer .refusal ≡ 0
     → (i : ℕ) → i < W * H → getD m i 0 ≡ 1 → getD (output (minimised W H e m work′ counters)) i 0 ≡ 1
 
+-- ---- hit-or-miss
+
+-- What hit-or-miss writes is ink exactly at the points that the mask hits, whatever the mask.
+abbrev pub HitsExactly : Type 0
+HitsExactly =
+    (W H : ℕ) (m : ℕ × ℕ) (image out : List ℕ) → hitOrMiss W H m image out .answer .refusal ≡ 0
+    → (z : Point) → Ink W H (output (hitOrMiss W H m image out)) z ↔ Hit W H m (Ink W H image) z
+
 -- ---- thinning
+
+-- A point that is not judged, since one of its nine lies off the frame, is as it was.
+abbrev pub EdgeStays : Type 0
+EdgeStays =
+    (W H : ℕ) (image work : List ℕ) → thin W H image work .answer .refusal ≡ 0
+    → (z b : Point) → MaskOffset 511 b → (Within W H (z ⊞ b) → ⊥) → Ink W H (output (thin W H image work)) z ↔ Ink W H image z
+
+-- Where a side is below 3 nothing is hit, and thinning makes one pass, removes nothing and leaves every byte of the image.
+pub record Narrow (W H : ℕ) : Type 0 where
+  pub hits : (m : ℕ × ℕ) (image out : List ℕ) → hitOrMiss W H m image out .answer .refusal ≡ 0
+      → hitOrMiss W H m image out ≡ outcome (foreground 0) (replicate (planeBytes W H) 0 ∷ [])
+  pub thinning : (image work : List ℕ) → Image W H image → thin W H image work .answer .refusal ≡ 0
+      → thin W H image work ≡ outcome (thinned 1 0 (area W H (imageSet W H image))) (image ∷ cleared W H work ∷ [])
+
+abbrev pub NarrowStays : Type 0
+NarrowStays = (W H : ℕ) → (W < 3) ⊎ (H < 3) → Narrow W H
 
 -- the image after n passes, and its points
 unfoldable pub after : ℕ → ℕ → ℕ → List ℕ → List ℕ

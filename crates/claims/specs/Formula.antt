@@ -1,4 +1,5 @@
--- The formula of 01 with "for all" and "exists", for the claims to say what labels and rebuilt images are. A set is a property of points.
+-- The formula of 01, and its hits as 02 moves them, with "for all" and "exists", for the claims to say what labels and images are.
+-- A set is a property of points.
 -- Definitions only; proofs/FormulaLaws.antt shows that they are what the tests of morphology/specs compute.
 use mathlib.Core.List.{List}
 use mathlib.Core.Path.{_≡_}
@@ -23,6 +24,14 @@ Ink W H image z = (x y : ℕ) × (x < W) × (y < H) × T (pixel W image x y) × 
 abbrev pub Offset : ℕ → Set
 Offset e b = (i : ℕ) × (i < 25) × T (bit e i) × (b ≡ at (subℕ (i % 5) 2) (subℕ (i / 5) 2))
 
+-- the frame's points
+abbrev pub Within : ℕ → ℕ → Set
+Within W H z = (x y : ℕ) × (x < W) × (y < H) × (z ≡ at (pos x) (pos y))
+
+-- those of one number of a mask: bit i = 3(dy + 1) + (dx + 1) stands for (dx, dy)
+abbrev pub MaskOffset : ℕ → Set
+MaskOffset m b = (i : ℕ) × (i < 9) × T (bit m i) × (b ≡ at (subℕ (i % 3) 1) (subℕ (i / 3) 1))
+
 -- ---- the formula
 
 -- erosion: every z with z + b in X for all b in B
@@ -46,3 +55,13 @@ HasSize B X n z = Eroded (Fold B n) X z × (Dilated B (Eroded B (Eroded (Fold B 
 abbrev pub Covered : ℕ → ℕ → Set → ℕ → List ℕ → Set
 Covered W H B k labels z =
     (x y n : ℕ) × (c : Point) × (x < W) × (y < H) × (getD labels (y * W + x) 0 ≡ suc n) × (k ≤ n) × Fold B n c × (z ≡ at (pos x) (pos y) ⊞ c)
+
+-- ---- hit-or-miss
+
+-- all points of the 3 by 3 neighbourhood, which the mask 511 has, lie on the frame
+abbrev pub Judged : ℕ → ℕ → Set
+Judged W H z = Eroded (MaskOffset 511) (Within W H) z
+
+-- judged, and all of the mask's foreground falls on X, all of its background beside it
+abbrev pub Hit : ℕ → ℕ → ℕ × ℕ → Set → Set
+Hit W H m X z = Judged W H z × Eroded (MaskOffset (m .0)) X z × Eroded (MaskOffset (m .1)) (λ p. X p → ⊥) z

@@ -11,8 +11,8 @@ use Rattle.morphology.specs.Operations.{clearedPlanes, decomposed, hitOr
 use Rattle.morphology.specs.Point.{_⊞_, minus, origin, sameInteger, samePoint}
 use Rattle.morphology.specs.Refusals.{firstRefusal, isWild, leaves}
 use Rattle.morphology.specs.Skeleton.{pick, reconstruct, reconstruction, skeletonFunction, skeletonLabels, skeletonSubset, stamp}
-use Rattle.morphology.specs.Thinning.{hit, thinPass, thinPasses, thinStep}
+use Rattle.morphology.specs.Thinning.{hit, interior, thinPass, thinPasses, thinStep}
 
 pub settled : Settled
-unfolding cases _⊞_ origin minus stride bitOf pixel imageSet offset offsetsBelow offsets tabulate fromBits pack greatest pick erode dilate opening minkowski times skeletonSubset skeletonFunction skeletonLabels stamp reconstruct reconstruction sameInteger samePoint places raster labelAt countOf area isClean clearedPlanes isElement isMask leaves isWild firstRefusal isRedundant dropAt dropSize dropSizes minimalBelow minimalLabels hit thinStep thinPass thinPasses decomposed reconstructed minimised hitOrMiss thin
+unfolding cases _⊞_ origin minus stride bitOf pixel imageSet offset offsetsBelow offsets tabulate fromBits pack greatest pick erode dilate opening minkowski times skeletonSubset skeletonFunction skeletonLabels stamp reconstruct reconstruction sameInteger samePoint places raster labelAt countOf area isClean clearedPlanes isElement isMask leaves isWild firstRefusal isRedundant dropAt dropSize dropSizes minimalBelow minimalLabels hit interior thinStep thinPass thinPasses decomposed reconstructed minimised hitOrMiss thin
 settled = refl

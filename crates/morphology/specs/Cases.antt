@@ -1,4 +1,5 @@
--- The settled cases of 01, A to E and G to L, and one more: a call, and what it answers and leaves. Definitions only; proofs/Cases.antt has the claim.
+-- The settled cases of 01, A to E and G to L, J and K as 02 moves them, and one more: a call, and what it answers and leaves.
+-- Definitions only; proofs/Cases.antt has the claim.
 -- Rows of pixels and of labels are written as 01 writes them, a decimal digit each. Buffers to be written hold 7 before the call,
 -- work holds 9 and one byte more than it needs.
 use mathlib.Core.List.{List, [], _++_, _∷_, map}
@@ -114,6 +115,10 @@ thins W H image p r n left = (
 
 -- ---- the table
 
+-- a block of 3 by 3 in the middle of a blank 5 by 5 sheet
+abbrev pub middle : List ℕ
+middle = 00000 ∷ 01110 ∷ 01110 ∷ 01110 ∷ 00000 ∷ []
+
 unfoldable pub cases : List Case
 cases =
     -- A
@@ -138,12 +143,16 @@ cases =
     -- I, and cut 1
     ∷ apart 4 3 SQUARE (1110 ∷ 1111 ∷ 1110 ∷ []) 2 1 (0000 ∷ 0201 ∷ 0000 ∷ [])
     ∷ rebuilt 4 3 SQUARE (0000 ∷ 0201 ∷ 0000 ∷ []) 1 9 (1110 ∷ 1110 ∷ 1110 ∷ [])
-    -- J: masks 1 and 2 alone, then the step of 1 and the step of 2
-    ∷ hits 3 3 (464, 7) (111 ∷ 111 ∷ 111 ∷ []) 1 (010 ∷ 000 ∷ 000 ∷ [])
-    ∷ hits 3 3 (152, 38) (111 ∷ 111 ∷ 111 ∷ []) 1 (001 ∷ 000 ∷ 000 ∷ [])
-    ∷ steps 3 3 ((464, 7) ∷ (152, 38) ∷ []) (111 ∷ 111 ∷ 111 ∷ []) 8 (101 ∷ 111 ∷ 111 ∷ [])
-    -- K
-    ∷ thins 3 3 (111 ∷ 111 ∷ 111 ∷ []) 3 4 5 (101 ∷ 110 ∷ 100 ∷ [])
+    -- J: masks 1 and 2 alone, then the step of 1 and the step of 2; the same block in the middle of a blank sheet
+    ∷ hits 3 3 (464, 7) (111 ∷ 111 ∷ 111 ∷ []) 0 (000 ∷ 000 ∷ 000 ∷ [])
+    ∷ hits 3 3 (152, 38) (111 ∷ 111 ∷ 111 ∷ []) 0 (000 ∷ 000 ∷ 000 ∷ [])
+    ∷ steps 3 3 ((464, 7) ∷ (152, 38) ∷ []) (111 ∷ 111 ∷ 111 ∷ []) 9 (111 ∷ 111 ∷ 111 ∷ [])
+    ∷ hits 5 5 (464, 7) middle 1 (00000 ∷ 00100 ∷ 00000 ∷ 00000 ∷ 00000 ∷ [])
+    ∷ hits 5 5 (152, 38) middle 1 (00000 ∷ 00010 ∷ 00000 ∷ 00000 ∷ 00000 ∷ [])
+    ∷ steps 5 5 ((464, 7) ∷ (152, 38) ∷ []) middle 8 (00000 ∷ 01010 ∷ 01110 ∷ 01110 ∷ 00000 ∷ [])
+    -- K; the same block in the middle of a blank sheet
+    ∷ thins 3 3 (111 ∷ 111 ∷ 111 ∷ []) 1 0 9 (111 ∷ 111 ∷ 111 ∷ [])
+    ∷ thins 5 5 middle 3 4 5 (00000 ∷ 01010 ∷ 01100 ∷ 01000 ∷ 00000 ∷ [])
     -- L: cuts 0, 1, 2
     ∷ rebuiltNot 1 1 SQUARE (2 ∷ []) 0 5
     ∷ rebuiltNot 1 1 SQUARE (2 ∷ []) 1 5

@@ -92,7 +92,7 @@ hitRows W H m image out = row1 W H ∷ row3 (notPlane W H image ∷ notPlane W H
 
 unfoldable pub hitOrMiss : ℕ → ℕ → ℕ × ℕ → List ℕ → List ℕ → Outcome
 hitOrMiss W H m image out =
-    let X = hit m (imageSet W H image) in
+    let X = hit W H m (imageSet W H image) in
     checked (hitRows W H m image out) (out ∷ []) (outcome (foreground (area W H X)) (pack W H X ∷ []))
 
 -- ---- thinning by the house set: the image in place

@@ -4,14 +4,19 @@ use mathlib.Core.List.{List, [], _∷_}
 use Prim.Native.Nat.{suc, zero, ℕ}
 use lib.Dec.{eqb}
 use Rattle.morphology.specs.Element.{maskOffsets}
-use Rattle.morphology.specs.Image.{imageSet, pack}
+use Rattle.morphology.specs.Image.{imageSet, onFrame, pack}
 use Rattle.morphology.specs.Labels.{area}
 use Rattle.morphology.specs.Point.{Point, _⊞_}
 use Rattle.morphology.specs.Lists.{everyOf}
 
--- all foreground offsets fall on the foreground, all background offsets on the background
-unfoldable pub hit : ℕ × ℕ → (Point → Bool) → (Point → Bool)
-hit m X z = everyOf (λ b. X (z ⊞ b)) (maskOffsets (m .0)) && everyOf (λ b. not (X (z ⊞ b))) (maskOffsets (m .1))
+-- the whole 3 by 3 neighbourhood of a point lies on the frame
+unfoldable pub interior : ℕ → ℕ → Point → Bool
+interior W H z = everyOf (λ b. onFrame W H (z ⊞ b)) (maskOffsets 511)
+
+-- of the interior: all foreground offsets fall on the foreground, all background offsets on the background
+unfoldable pub hit : ℕ → ℕ → ℕ × ℕ → (Point → Bool) → (Point → Bool)
+hit W H m X z =
+    interior W H z && (everyOf (λ b. X (z ⊞ b)) (maskOffsets (m .0)) && everyOf (λ b. not (X (z ⊞ b))) (maskOffsets (m .1)))
 
 -- the house set (Golay's L and its turns): foreground, background
 abbrev pub golayL : List (ℕ × ℕ)
@@ -19,7 +24,7 @@ golayL = (464, 7) ∷ (152, 38) ∷ (89, 292) ∷ (26, 416) ∷ (23, 448) ∷ (5
 
 -- a step removes all hit points at once, judged on the image before it
 unfoldable pub thinStep : ℕ → ℕ → ℕ × ℕ → List ℕ → List ℕ
-thinStep W H m s = pack W H (λ z. imageSet W H s z && not (hit m (imageSet W H s) z))
+thinStep W H m s = pack W H (λ z. imageSet W H s z && not (hit W H m (imageSet W H s) z))
 
 -- masks in turn, each on the result of the last
 unfoldable pub thinPass : ℕ → ℕ → List (ℕ × ℕ) → List ℕ → List ℕ

@@ -3,7 +3,7 @@ use mathlib.Core.Bool.{Bool, _&&_, and-false, and-true, false, not, true, xor}
 use mathlib.Core.Path.{_∙_, _≡_, ap, refl, sym}
 use Prim.Native.Nat.{_%_, _*_, _+_, _-_, _/_, _<_, _^_, _≤_, suc, zero, ℕ}
 use native.Mathlib.Decide.{decLe}
-use native.Mathlib.Nat.{add-zero, mod-eq-of-lt, zero-div, zero-mul}
+use native.Mathlib.Nat.{add-zero, div-mul-le-self, mod-eq-of-lt, zero-div, zero-mul}
 use native.Mathlib.Omega.{arith}
 use borrow.Author.Tests.{le-leb, le-ltb, lt-leb, lt-ltb, ne-eqb}
 use lib.Bits.{and-high, bitAnd, bitOr, bitXor, or-shifted}
@@ -94,8 +94,11 @@ moved-bit a b d k ha hb hd hk =
     ∙ ap (λ (n : ℕ). n % 2) (shr-shr v (8 - d) (7 - k))
     ∙ ap (λ (n : ℕ). v / 2 ^ n % 2) (omega arith))
 
--- the lowest k bits cleared: pixels from 8 - k on are background
-pub cleared-bit : (v k j : ℕ) → v < 256 → k < 8 → j < 8 → bitOf ((v / 2 ^ k * 2 ^ k) % 2 ^ 8) j ≡ (bitOf v j && ltb j (8 - k))
+-- the lowest k bits cleared, as a word: a byte still, and pixels from 8 - k on are background
+pub cleared-small : (v k : ℕ) → v < 256 → (v / 2 ^ k * 2 ^ k) % 2 ^ 32 < 256
+cleared-small v k hv = omega (arith, div-mul-le-self v (2 ^ k))
+
+pub cleared-bit : (v k j : ℕ) → v < 256 → k ≤ 8 → j < 8 → bitOf ((v / 2 ^ k * 2 ^ k) % 2 ^ 32) j ≡ (bitOf v j && ltb j (8 - k))
 unfolding bitOf
 cleared-bit v k j hv hk hj = ap (λ (n : ℕ). eqb (n / 2 ^ m % 2) 1) e ∙ by (decLe k m)
   where
@@ -105,7 +108,7 @@ cleared-bit v k j hv hk hj = ap (λ (n : ℕ). eqb (n / 2 ^ m % 2) 1) e ∙ by (
     u : ℕ
     u = v / 2 ^ k * 2 ^ k
 
-    e : u % 2 ^ 8 ≡ u
+    e : u % 2 ^ 32 ≡ u
     e = mod-eq-of-lt (omega (arith, split v k))
 
     by : Dec (k ≤ m) → eqb (u / 2 ^ m % 2) 1 ≡ (eqb (v / 2 ^ m % 2) 1 && ltb j (8 - k))

@@ -193,9 +193,9 @@ ltb-iff a b c d f g = by (decLt a b)
             go (no h) = omega arith
 
 -- the last byte of a row with its lowest 8 r - w bits cleared
-pub padding-row : (w k : ℕ) (old : List ℕ) → k ≡ length old * 8 - w → w ≤ 8 * length old → 8 * length old < w + 8 → 0 < length old
+pub padding-row : (w k : ℕ) (old : List ℕ) → k ≡ length old * 8 - w → w ≤ 8 * length old → 8 * length old ≤ w + 8 → 0 < length old
     → getD old (length old - 1) 0 < 256
-    → Pixelwise old (set old (length old - 1) ((getD old (length old - 1) 0 / 2 ^ k * 2 ^ k) % 2 ^ 8)) (λ x b. b && ltb x w)
+    → Pixelwise old (set old (length old - 1) ((getD old (length old - 1) 0 / 2 ^ k * 2 ^ k) % 2 ^ 32)) (λ x b. b && ltb x w)
 unfolding rowBit
 padding-row w k old ek hw hr h0 hv = record { size = length-set old last v; pixels = λ x l. by x l (decLt (x / 8) last) }
   where
@@ -203,7 +203,7 @@ padding-row w k old ek hw hr h0 hv = record { size = length-set old last v; pixe
     last = length old - 1
 
     v : ℕ
-    v = (getD old last 0 / 2 ^ k * 2 ^ k) % 2 ^ 8
+    v = (getD old last 0 / 2 ^ k * 2 ^ k) % 2 ^ 32
 
     by : (x : ℕ) → x < 8 * length old → Dec (x / 8 < last) → rowBit (set old last v) x ≡ (rowBit old x && ltb x w)
     by x l (yes m) =

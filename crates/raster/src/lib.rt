@@ -77,14 +77,14 @@ pub fn clear_start(row: &mut [u8], k: u32)
     row[0] = row[0] << k >> k;
 }
 
-// Clears the padding of a row: its pixels from w on.
+// Clears the padding of a row: its pixels from w on, of its last byte, which may be all padding.
 pub fn clear_padding(row: &mut [u8], w: usize)
-    requires { ⌜ (w ≤ 8 * length (now row)) × (8 * length (now row) < w + 8) × (0 < length (now row)) × (length (now row) ≤ maxStride) ⌝ }
+    requires { ⌜ (w ≤ 8 * length (now row)) × (8 * length (now row) ≤ w + 8) × (0 < length (now row)) × (length (now row) ≤ maxStride) ⌝ }
     ensures { λ _. ⌜ Pixelwise (now (row .entry)) (now (row .exit)) (λ x b. b && ltb x w) ⌝ }
 {
     let last = row.len() - 1;
     let k = (row.len() * 8 - w) as u32;
-    row[last] = row[last] >> k << k;
+    row[last] = (row[last] as u32 >> k << k) as u8;
 }
 
 // Whether pixel k of the eight of a byte is foreground.

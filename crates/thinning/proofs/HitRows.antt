@@ -1,5 +1,5 @@
--- What a mask asks, and the plane of its hits.
-use mathlib.Core.Bool.{Bool, _&&_, and-assoc, cond, false, not, true}
+-- What a mask asks, and the plane of its hits: asked in the interior.
+use mathlib.Core.Bool.{Bool, _&&_, and-assoc, and-comm, cond, false, not, true}
 use mathlib.Core.List.{List, _∷_}
 use mathlib.Core.Path.{_∙_, _≡_, ap, ap₂, refl, sym}
 use Prim.Native.Nat.{_%_, _*_, _+_, _-_, _/_, _<_, _^_, suc, ℕ}
@@ -14,14 +14,15 @@ use Rattle.morphology.specs.Morphology.{erode}
 use Rattle.morphology.specs.Point.{Point, _⊞_, at}
 use Rattle.morphology.specs.Thinning.{hit}
 use Rattle.morphology.proofs.TestLaws.{upto, upto-out}
-use Rattle.raster.specs.Rows.{rowBit}
+use Rattle.morphology.proofs.ThinningLaws.{asked, interior-box}
+use Rattle.raster.specs.Rows.{PlaneIs, rowBit}
 use Rattle.raster.specs.Frames.{Frame}
 use Rattle.raster.proofs.PackLaws.{frame-bytes, pack-rows}
 use Rattle.neighbours.specs.Neighbours.{PlaneJoined, nearBit, neighbours, sourceBit}
 use Rattle.planes.proofs.CentreLaws.{near-itself, origin-less}
 use Rattle.neighbours.proofs.JoinLaws.{plane-more}
 use Rattle.planes.proofs.SetLaws.{near-image, neighbours-set}
-use Rattle.thinning.specs.Hits.{hits, widened}
+use Rattle.thinning.specs.Hits.{hits, inner, widened}
 use Rattle.thinning.proofs.MaskLaws.{MaskParts, mask-of}
 
 -- what is asked of the foreground joined, then what is asked of the background
@@ -78,10 +79,10 @@ widened-centre m small c = digit m small 12 tt ∙ c
 -- ---- the plane of hits
 
 -- at a point, by the sets
-hits-set : (W H r fg bg : ℕ) (image : List ℕ) → r ≡ stride W → MaskParts fg bg → T (isClean W H image) → (x y : ℕ)
-    → hits (widened fg) (widened bg) (nearBit image r H) x y ≡ hit (fg, bg) (imageSet W H image) (at (pos x) (pos y))
-unfolding hit erode
-hits-set W H r fg bg image q m clean x y =
+asked-set : (W H r fg bg : ℕ) (image : List ℕ) → r ≡ stride W → MaskParts fg bg → T (isClean W H image) → (x y : ℕ)
+    → hits (widened fg) (widened bg) (nearBit image r H) x y ≡ asked (fg, bg) (imageSet W H image) (at (pos x) (pos y))
+unfolding erode
+asked-set W H r fg bg image q m clean x y =
     ap₂ (λ (a b : Bool). a && b)
     ((λ i. neighbours false (widened fg) (λ X Y. near-image W H r image q clean X Y i) x y) ∙ neighbours-set false (widened fg) S x y
     ∙ ap (λ (B : List Point). everyOf (λ b. S (z ⊞ b)) B) (widened-offsets fg (m .fg-small)))
@@ -94,12 +95,21 @@ hits-set W H r fg bg image q m clean x y =
     z : Point
     z = at (pos x) (pos y)
 
--- the image, and what the mask asks without its centre
-pub hits-done : (W H r fg bg e b : ℕ) (image old new : List ℕ) → Frame W H r → length image ≡ H * r → T (isMask (fg, bg)) → T (isClean W H image)
-    → ((i : ℕ) → getD new i 0 < 256) → e ≡ widened fg → b ≡ widened bg → old ≡ image
-    → PlaneJoined false 0 r H old new (λ y x. hits (e - 4096) b (nearBit image r H) x y) → new ≡ pack W H (hit (fg, bg) (imageSet W H image))
-hits-done W H r fg bg e b image old new f len t clean bytes qe qb qo a =
-    sym (pack-rows W H r (hit (fg, bg) S) new (f .row) (a .size ∙ ap length qo ∙ len ∙ frame-bytes f) bytes bits)
+-- asked in the interior
+asked-hit : (W H fg bg : ℕ) (X : Point → Bool) (x y : ℕ)
+    → (asked (fg, bg) X (at (pos x) (pos y)) && (inner W x && inner H y)) ≡ hit W H (fg, bg) X (at (pos x) (pos y))
+unfolding hit
+asked-hit W H fg bg X x y =
+    let z = at (pos x) (pos y) in
+    and-comm (asked (fg, bg) X z) (inner W x && inner H y) ∙ ap (λ (b : Bool). b && asked (fg, bg) X z) (sym (interior-box W H z))
+
+-- the image, what the mask asks without its centre, and the edge cleared
+pub hits-done : (W H r fg bg e b : ℕ) (image old new edged : List ℕ) → Frame W H r → length image ≡ H * r → T (isMask (fg, bg)) → T (isClean W H image)
+    → ((i : ℕ) → getD edged i 0 < 256) → e ≡ widened fg → b ≡ widened bg → old ≡ image
+    → PlaneJoined false 0 r H old new (λ y x. hits (e - 4096) b (nearBit image r H) x y)
+    → PlaneIs 0 r H new edged (λ y x. rowBit new (8 * (0 + y * r) + x) && (inner W x && inner H y)) → edged ≡ pack W H (hit W H (fg, bg) (imageSet W H image))
+hits-done W H r fg bg e b image old new edged f len t clean bytes qe qb qo a c =
+    sym (pack-rows W H r (hit W H (fg, bg) S) edged (f .row) (c .size ∙ a .size ∙ ap length qo ∙ len ∙ frame-bytes f) bytes bits)
   where
     S : Point → Bool
     S = imageSet W H image
@@ -110,13 +120,18 @@ hits-done W H r fg bg e b image old new f len t clean bytes qe qb qo a =
     near : ℕ → ℕ → Bool
     near = nearBit image r H
 
-    bits : (y x : ℕ) → y < H → x < 8 * r → rowBit new (8 * (y * r) + x) ≡ hit (fg, bg) S (at (pos x) (pos y))
-    bits y x hy hx =
+    joined : (y x : ℕ) → y < H → x < 8 * r → rowBit new (8 * (0 + y * r) + x) ≡ asked (fg, bg) S (at (pos x) (pos y))
+    joined y x hy hx =
         let z : 8 * (0 + y * r) + x ≡ 8 * (y * r) + x = omega arith in
         let n = neighbours false b (λ X Y. not (near X Y)) x y in
-        ap (rowBit new) (sym z) ∙ a .pixels y x hy hx
+        a .pixels y x hy hx
         ∙ sym (and-assoc (rowBit old (8 * (0 + y * r) + x)) (neighbours false (e - 4096) near x y) n)
         ∙ ap₂ (λ (c : Bool) (k : ℕ). (c && neighbours false (k - 4096) near x y) && n) (ap₂ rowBit qo z ∙ sym (near-itself image r H x y hy hx)) qe
         ∙ ap₂ (λ (c : Bool) (k : ℕ). c && neighbours false k (λ X Y. not (near X Y)) x y)
         (origin-less false (widened fg) near x y (widened-centre fg (m .fg-small) (m .centre))) qb
-        ∙ hits-set W H r fg bg image (f .row) m clean x y
+        ∙ asked-set W H r fg bg image (f .row) m clean x y
+
+    bits : (y x : ℕ) → y < H → x < 8 * r → rowBit edged (8 * (y * r) + x) ≡ hit W H (fg, bg) S (at (pos x) (pos y))
+    bits y x hy hx =
+        let z : 8 * (y * r) + x ≡ 8 * (0 + y * r) + x = omega arith in
+        ap (rowBit edged) z ∙ c .pixels y x hy hx ∙ ap (λ (b : Bool). b && (inner W x && inner H y)) (joined y x hy hx) ∙ asked-hit W H fg bg S x y

@@ -1,5 +1,6 @@
 pub mod CallLaws
 pub mod MaskLaws
+pub mod EdgeLaws
 pub mod HitRows
 pub mod HitLaws
 pub mod PassLaws

@@ -41,11 +41,11 @@ front-size W H p Y ys rest q e =
 
 -- a step, with the hits in the first plane of work
 pub step-leaves : (W H p : ℕ) (m : ℕ × ℕ) (image t work ys : List ℕ) → p ≡ planeBytes W H → length image ≡ p → p ≤ length work → T (isClean W H image)
-    → ((i : ℕ) → getD t i 0 < 256) → ys ≡ pack W H (hit m (imageSet W H image))
+    → ((i : ℕ) → getD t i 0 < 256) → ys ≡ pack W H (hit W H m (imageSet W H image))
     → Pixelwise image t (λ x b. b && not (rowBit (take p (ys ++ drop p work)) x)) → Leaves p (thinStep W H m image) t work (ys ++ drop p work)
 unfolding thinStep
 step-leaves W H p m image t work ys q len h clean bytes e a =
-    let Y = hit m (imageSet W H image) in
+    let Y = hit W H m (imageSet W H image) in
     let size : length ys ≡ p = ap length e ∙ length-pack W H Y ∙ sym q in
     let src : take p (ys ++ drop p work) ≡ pack W H Y = take-at ys (drop p work) p size ∙ e in
     record {

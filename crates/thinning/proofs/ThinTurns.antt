@@ -29,8 +29,8 @@ module _ (W H : ℕ) where
   unfolding thinStep
   plane-step m s =
       let X = imageSet W H s in
-      let Y : Point → Bool = λ z. X z && not (hit m X z) in
-      plane-pack W H Y (on-sub W H Y X (λ z t. and-l (X z) (not (hit m X z)) t) (image-on W H s))
+      let Y : Point → Bool = λ z. X z && not (hit W H m X z) in
+      plane-pack W H Y (on-sub W H Y X (λ z t. and-l (X z) (not (hit W H m X z)) t) (image-on W H s))
 
   pub plane-pass : (ms : List (ℕ × ℕ)) (s : List ℕ) → Plane W H s → Plane W H (thinPass W H ms s)
   unfolding thinPass

@@ -1,4 +1,6 @@
 // Hit-or-miss by one mask and thinning by the house set: public.
+mod edges;
+
 pub use iteration::Written;
 ghost use mathlib.Core.Path.{_≡_};
 ghost use mathlib.Core.Bool.{false};
@@ -72,14 +74,16 @@ fn widen(mask: u32) -> u32
     mask % 8 * 64 + mask / 8 % 8 * 2048 + mask / 64 * 65536
 }
 
-// The points of an image that a mask hits. The centre is foreground, so that out begins with the image. Outside is background.
+// The points of an image that a mask hits. The centre is foreground, so that out begins with the image. What is asked beyond
+// the sheet does not matter: it is asked at the edge alone, where nothing is hit.
 fn hit_plane(w: usize, h: usize, r: usize, fg: u32, bg: u32, image: &[u8], out: &mut [u8])
     requires { ⌜ Frame w h r × (length (now image) ≡ h * r) × (length (now out) ≡ h * r) × T (isMask (fg, bg)) × T (isClean w h (now image)) ⌝ }
-    ensures { λ _. ⌜ now (out .exit) ≡ pack w h (hit (fg, bg) (imageSet w h (now (image .entry)))) ⌝ }
+    ensures { λ _. ⌜ now (out .exit) ≡ pack w h (hit w h (fg, bg) (imageSet w h (now (image .entry)))) ⌝ }
 {
     raster::copy(image, out);
     neighbours::join_mask(false, image, out, r, h, widen(fg) - elements::ORIGIN);
     neighbours::join_mask(true, image, out, r, h, widen(bg));
+    edges::clear(w, h, r, out);
 }
 
 // Row 6: a mask has a bit above 8, lacks the centre in the foreground, or its two numbers overlap.

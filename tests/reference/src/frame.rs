@@ -34,10 +34,14 @@ impl Frame {
         (self.width * self.height) as usize
     }
 
+    /// Whether a point lies on the frame.
+    pub fn has(self, x: i32, y: i32) -> bool {
+        0 <= x && x < self.width && 0 <= y && y < self.height
+    }
+
     /// The place of a point in row order; none outside the frame.
     pub fn index(self, x: i32, y: i32) -> Option<usize> {
-        let inside = 0 <= x && x < self.width && 0 <= y && y < self.height;
-        inside.then(|| (y * self.width + x) as usize)
+        self.has(x, y).then(|| (y * self.width + x) as usize)
     }
 
     /// All points, row by row, left to right.

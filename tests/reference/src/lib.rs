@@ -1,7 +1,7 @@
-//! An independent second program for the rules of document 01 and the codes of 02, written and
-//! read. It works on unpacked sets of points and on distances, not on packed planes that are
-//! eroded and dilated step by step, and it is the judge in comparisons: for any arguments and any
-//! lengths it says the answer and every lent byte afterwards.
+//! An independent second program for the rules of document 01, with the edge of T-04, and the
+//! codes of 02, written and read. It works on unpacked sets of points and on distances, not on
+//! packed planes that are eroded and dilated step by step, and it is the judge in comparisons: for
+//! any arguments and any lengths it says the answer and every lent byte afterwards.
 
 pub mod cases;
 mod code;
@@ -210,7 +210,7 @@ pub fn minimise(
     })
 }
 
-/// Hit-or-miss by one mask.
+/// Hit-or-miss by one mask; nothing within one pixel of the frame's edge is hit.
 pub fn hit_or_miss(w: u32, h: u32, fg: u32, bg: u32, image: &[u8], out: &mut [u8]) -> Answer {
     let arguments = Arguments {
         w,

@@ -1,4 +1,5 @@
-//! Hit-or-miss and thinning, pixel by pixel from the definition.
+//! Hit-or-miss and thinning, pixel by pixel from the definition. A point whose 3 by 3
+//! neighbourhood does not lie whole on the frame is never hit (T-04).
 
 use crate::frame::Set;
 
@@ -22,6 +23,9 @@ pub const GOLAY_L: [(u32, u32); 8] = [
     (176, 11),
 ];
 
+/// All nine offsets of a neighbourhood, as one number of a mask.
+const NEIGHBOURHOOD: u32 = 0b111_111_111;
+
 /// The offsets of one number of a mask: bit 3(dy+1) + (dx+1) stands for (dx, dy).
 fn offsets(number: u32) -> impl Iterator<Item = (i32, i32)> {
     (0..9)
@@ -29,10 +33,12 @@ fn offsets(number: u32) -> impl Iterator<Item = (i32, i32)> {
         .map(|bit| (bit % 3 - 1, bit / 3 - 1))
 }
 
-/// The points where all offsets of fg fall on foreground and all of bg on background.
+/// The points whose whole neighbourhood lies on the frame, where all offsets of fg fall on
+/// foreground and all of bg on background.
 pub fn hit_or_miss(x: &Set, fg: u32, bg: u32) -> Set {
     x.frame.collect(|zx, zy| {
-        offsets(fg).all(|(dx, dy)| x.has(zx + dx, zy + dy))
+        offsets(NEIGHBOURHOOD).all(|(dx, dy)| x.frame.has(zx + dx, zy + dy))
+            && offsets(fg).all(|(dx, dy)| x.has(zx + dx, zy + dy))
             && offsets(bg).all(|(dx, dy)| !x.has(zx + dx, zy + dy))
     })
 }

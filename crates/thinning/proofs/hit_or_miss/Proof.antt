@@ -40,7 +40,7 @@ count-ones-requires c κs =
     let b = p .before .before in
     let a = b .before .before .before .before .before .args in
     let d = hit-ready (a .w) (a .h) (a .fg) (a .bg) (now (a .image)) (now (a .out)) (b .before .hit-refusal .ensures) (b .if1 .left) in
-    omega (arith, d .small, ap length (p .hit-plane .ensures) ∙ length-pack (a .w) (a .h) (hit (a .fg, a .bg) (imageSet (a .w) (a .h) (now (a .image)))))
+    omega (arith, d .small, ap length (p .hit-plane .ensures) ∙ length-pack (a .w) (a .h) (hit (a .w) (a .h) (a .fg, a .bg) (imageSet (a .w) (a .h) (now (a .image)))))
 
 same-length-2 : tie.Need-same-length-2
 same-length-2 c = search needs

@@ -1,4 +1,5 @@
--- `thinning::hit_plane` meets its contract. What the mask's foreground and its background ask, both joined to a copy of the image, are the hits.
+-- `thinning::hit_plane` meets its contract. What the mask's foreground and its background ask, both joined to a copy of the image and
+-- cleared at the edge, are the hits.
 use borrow.Author.Needs.{needs}
 use native.Mathlib.Omega.{arith}
 use mathlib.Core.Path.{ap}
@@ -61,21 +62,30 @@ join-mask-requires-2 c κs =
       s .pre .0 .down,
     )
 
+clear-requires : tie.Need-clear-requires
+clear-requires c κs =
+    let at-join-mask2 = c .before .before .before in
+    let at-join-mask = to-join-mask (at-join-mask2 .before) in
+    let s = start (at-join-mask .before .before) in
+    (s .pre .0, omega (arith, s .pre .2, at-join-mask .join-mask .ensures .size, at-join-mask2 .join-mask2 .ensures .size))
+
 same-length : tie.Need-same-length
 same-length c = search needs
 
 returns : tie.Need-returns
 returns c =
-    let at-join-mask2 = c .before .before in
+    let at-clear = c .before .before in
+    let at-join-mask2 = at-clear .before .before .before .before in
     let at-widen2 = at-join-mask2 .before in
     let at-join-mask = to-join-mask at-widen2 in
     let at-widen = at-join-mask .before in
     let at-copy = to-copy at-widen in
     let s = start (at-widen .before) in
     let a = s .args in
-    hits-done (a .w) (a .h) (a .r) (a .fg) (a .bg) _ _ (now (a .image)) _ _ (s .pre .0) (s .pre .1) (s .pre .3) (s .pre .4)
-    (λ i. c .slice-known4 .given i .fits) (at-widen .widen .ensures) (at-widen2 .widen2 .ensures) (at-copy .copy .ensures)
+    hits-done (a .w) (a .h) (a .r) (a .fg) (a .bg) _ _ (now (a .image)) _ _ _ (s .pre .0) (s .pre .1) (s .pre .3) (s .pre .4)
+    (λ i. c .slice-known5 .given i .fits) (at-widen .widen .ensures) (at-widen2 .widen2 .ensures) (at-copy .copy .ensures)
     (both-asked (a .r) (a .h) _ _ (now (a .image)) _ _ _ (at-join-mask .join-mask .ensures) (at-join-mask2 .join-mask2 .ensures))
+    (at-clear .clear .ensures)
 
 pub hit-plane-spec : {M : Type 1} → statement M
 hit-plane-spec =
@@ -87,5 +97,6 @@ hit-plane-spec =
     join-mask-requires
     widen-requires-2
     join-mask-requires-2
+    clear-requires
     same-length
     returns)

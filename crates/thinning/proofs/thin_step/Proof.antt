@@ -38,7 +38,7 @@ slice-aggregate-subtract c =
     let at-hit-plane = to-hit-plane c in
     let s = start (at-hit-plane .before) in
     let a = s .args in
-    sym (front-size (a .w) (a .h) (a .p) (hit (a .fg, a .bg) (imageSet (a .w) (a .h) (now (a .image)))) _ _ (sheet-bytes (s .pre .0))
+    sym (front-size (a .w) (a .h) (a .p) (hit (a .w) (a .h) (a .fg, a .bg) (imageSet (a .w) (a .h) (now (a .image)))) _ _ (sheet-bytes (s .pre .0))
     (at-hit-plane .hit-plane .ensures))
 
 subtract-requires : tie.Need-subtract-requires
@@ -46,7 +46,7 @@ subtract-requires c κs =
     let at-hit-plane = to-hit-plane (c .before) in
     let s = start (at-hit-plane .before) in
     let a = s .args in
-    front-size (a .w) (a .h) (a .p) (hit (a .fg, a .bg) (imageSet (a .w) (a .h) (now (a .image)))) _ _ (sheet-bytes (s .pre .0))
+    front-size (a .w) (a .h) (a .p) (hit (a .w) (a .h) (a .fg, a .bg) (imageSet (a .w) (a .h) (now (a .image)))) _ _ (sheet-bytes (s .pre .0))
     (at-hit-plane .hit-plane .ensures) ∙ sym (s .pre .1)
 
 same-length : tie.Need-same-length

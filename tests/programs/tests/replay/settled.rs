@@ -1,5 +1,5 @@
-//! The cases A to M of 01 and the codes of 02, written and read, from the tables that the second
-//! program is held to, and what a cut makes of shortened labels.
+//! The cases A to M of 01, J and K as T-04 has them, and the codes of 02, written and read, from
+//! the tables that the second program is held to, and what a cut makes of shortened labels.
 
 use programs::format::{Message, Reply};
 use programs::replay::Replay;
@@ -64,27 +64,36 @@ fn readings_of_the_cases_and_of_the_sample() {
     replay.end();
 }
 
-/// Case J's last sentence in steps: the step of mask 1, then of mask 2, on what is left.
+/// Case J's last sentence in steps: the step of mask 1, then of mask 2, on what is left. A block
+/// that is the whole sheet stays.
 #[test]
 fn case_j_in_steps() {
     let mut replay = Replay::start();
-    let (w, h, mut block) = image("111/111/111");
-    for (fg, bg) in [(464, 7), (152, 38)] {
-        let hit = Call::HitOrMiss {
-            w,
-            h,
-            fg,
-            bg,
-            image: block.clone(),
-            out: vec![0xA5; 3],
-        };
-        let hits = replay.call(&Message::from(&hit)).y;
-        block
-            .iter_mut()
-            .zip(&hits)
-            .for_each(|(byte, hit)| *byte &= !hit);
+    for (drawn, left) in [
+        ("111/111/111", "111/111/111"),
+        (
+            "00000/01110/01110/01110/00000",
+            "00000/01010/01110/01110/00000",
+        ),
+    ] {
+        let (w, h, mut block) = image(drawn);
+        for (fg, bg) in [(464, 7), (152, 38)] {
+            let hit = Call::HitOrMiss {
+                w,
+                h,
+                fg,
+                bg,
+                image: block.clone(),
+                out: vec![0xA5; block.len()],
+            };
+            let hits = replay.call(&Message::from(&hit)).y;
+            block
+                .iter_mut()
+                .zip(&hits)
+                .for_each(|(byte, hit)| *byte &= !hit);
+        }
+        assert_eq!(draw(w, &block), left);
     }
-    assert_eq!(draw(w, &block), "101/111/111");
     replay.end();
 }
 

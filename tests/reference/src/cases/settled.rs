@@ -1,5 +1,5 @@
-//! The cases A to M of 01, sentence by sentence: expected values are the document's. And one
-//! chain of calls beside them.
+//! The cases A to M of 01, J and K as T-04 has them, sentence by sentence: expected values are
+//! the documents'. And one chain of calls beside them.
 
 use super::Call;
 use crate::drawn::{full, image, labels};
@@ -18,6 +18,8 @@ pub struct Settled {
 #[rustfmt::skip]
 pub fn settled() -> Vec<Settled> {
     let three = "111/111/111";
+    // The same block in the middle of a blank sheet.
+    let (middle, blank) = ("00000/01110/01110/01110/00000", "00000/00000/00000/00000/00000");
     let (mask_1, mask_2) = ((464, 7), (152, 38));
     let mut settled = vec![
         decompose('A', three, SQUARE, skeleton(1, 1), "000/020/000"),
@@ -41,11 +43,14 @@ pub fn settled() -> Vec<Settled> {
         decompose('H', "1101", LEFT, skeleton(2, 1), "0201"),
         case('I', decomposed(4, 3, SQUARE, vec![0xE0, 0xF0, 0xE0]), skeleton(2, 1), &labels("0000/0201/0000")),
         reconstruct('I', "0000/0201/0000", SQUARE, 1, Area(9), "1110/1110/1110"),
-        hit_or_miss('J', three, mask_1, Area(1), "010/000/000"),
-        hit_or_miss('J', three, mask_2, Area(1), "001/000/000"),
+        hit_or_miss('J', three, mask_1, Area(0), "000/000/000"),
+        hit_or_miss('J', three, mask_2, Area(0), "000/000/000"),
+        hit_or_miss('J', middle, mask_1, Area(1), "00000/00100/00000/00000/00000"),
+        hit_or_miss('J', middle, mask_2, Area(1), "00000/00010/00000/00000/00000"),
         // The step of 1 leaves this; the step of 2 after it takes nothing.
-        hit_or_miss('J', "101/111/111", mask_2, Area(0), "000/000/000"),
-        thin('K', three, Thinned { passes: 3, removed: 4, area: 5 }, "101/110/100"),
+        hit_or_miss('J', "00000/01010/01110/01110/00000", mask_2, Area(0), blank),
+        thin('K', three, Thinned { passes: 1, removed: 0, area: 9 }, three),
+        thin('K', middle, Thinned { passes: 3, removed: 4, area: 5 }, "00000/01010/01100/01000/00000"),
         reconstruct('L', "2", SQUARE, 0, Refused(5), ""),
         reconstruct('L', "2", SQUARE, 1, Refused(5), ""),
         reconstruct('L', "2", SQUARE, 2, Area(0), "0"),

@@ -1,4 +1,4 @@
-//! The cases A to M of 01, from the table that the comparisons share.
+//! The cases A to M of 01, J and K as T-04 has them, from the table that the comparisons share.
 
 use reference::cases::{run, settled, Settled};
 

@@ -2,7 +2,8 @@
 //! random, mostly lopsided elements. The first test is the check of the claim, made in the
 //! library's head comment, that the sizes are distances compared.
 
-use crate::{calls, plain};
+use crate::calls;
+use crate::plain::{self, Points};
 use reference::cases;
 use reference::rng::Rng;
 use reference::Answer::*;
@@ -114,35 +115,53 @@ fn formula_minimise() {
     assert!(accepted > 600);
 }
 
+/// Hit-or-miss by the house set, and thinning, where these points of the frame are judged.
+fn hits_and_thins(w: u32, h: u32, x: &Points, judged: &Points) {
+    let image = plain::packed(w, h, x);
+    for mask in plain::HOUSE {
+        let (fg, bg) = plain::numbers(mask);
+        let hit = plain::hit_or_miss(judged, x, mask);
+        assert_eq!(
+            calls::hit_or_miss(w, h, fg, bg, &image),
+            (Area(hit.len() as u32), plain::packed(w, h, &hit))
+        );
+    }
+    let (thinned, passes) = plain::thin(x, |x, mask| plain::thin_step(judged, x, mask));
+    let area = thinned.len() as u32;
+    let removed = x.len() as u32 - area;
+    assert_eq!(
+        calls::thin(w, h, &image),
+        (
+            Thinned {
+                passes,
+                removed,
+                area
+            },
+            plain::packed(w, h, &thinned)
+        )
+    );
+}
+
 #[test]
 fn formula_hit_or_miss_and_thin() {
     let rng = &mut Rng::new(5);
     for _ in 0..1500 {
         let (w, h) = (rng.between(1, 20) as u32, rng.between(1, 12) as u32);
-        let image = cases::image(rng, w, h);
-        let x = plain::foreground(w, h, &image);
-        for mask in plain::HOUSE {
-            let (fg, bg) = plain::numbers(mask);
-            let hit = plain::hit_or_miss(&x, mask);
-            assert_eq!(
-                calls::hit_or_miss(w, h, fg, bg, &image),
-                (Area(hit.len() as u32), plain::packed(w, h, &hit))
-            );
-        }
-        let (thinned, passes) = plain::thin(&x, plain::thin_step);
-        let area = thinned.len() as u32;
-        let removed = x.len() as u32 - area;
-        assert_eq!(
-            calls::thin(w, h, &image),
-            (
-                Thinned {
-                    passes,
-                    removed,
-                    area
-                },
-                plain::packed(w, h, &thinned)
-            )
-        );
+        let x = plain::foreground(w, h, &cases::image(rng, w, h));
+        hits_and_thins(w, h, &x, &plain::interior(w, h));
+    }
+}
+
+/// What T-04 says of the block of J and K, for any image: within a blank margin it keeps the
+/// answers of 01, where every point was judged, moved by (1,1).
+#[test]
+fn formula_within_a_blank_margin() {
+    let rng = &mut Rng::new(10);
+    for _ in 0..500 {
+        let (w, h) = (rng.between(1, 20) as u32, rng.between(1, 12) as u32);
+        let x = plain::foreground(w, h, &cases::image(rng, w, h));
+        let every = plain::frame(w + 2, h + 2).collect();
+        hits_and_thins(w + 2, h + 2, &plain::moved(&x, (1, 1)), &every);
     }
 }
 
@@ -164,7 +183,7 @@ fn formula_hit_or_miss_by_any_mask() {
                 })
             })
         };
-        let hit: plain::Points = plain::frame(w, h).filter(near).collect();
+        let hit: Points = plain::interior(w, h).into_iter().filter(near).collect();
         assert_eq!(
             calls::hit_or_miss(w, h, fg, bg, &image),
             (Area(hit.len() as u32), plain::packed(w, h, &hit))
@@ -193,7 +212,7 @@ fn house_set_is_two_masks_turned() {
 /// The five named elements are what their words say.
 #[test]
 fn elements_of_the_cases() {
-    let block = |reach: i32| -> plain::Points {
+    let block = |reach: i32| -> Points {
         (-reach..=reach)
             .flat_map(|dy| (-reach..=reach).map(move |dx| (dx, dy)))
             .collect()

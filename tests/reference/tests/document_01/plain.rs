@@ -1,5 +1,5 @@
-//! The formula of 01 read word for word, on sets of points of the whole plane. Slow, and
-//! made to be believed.
+//! The formula of 01 read word for word, on sets of points of the whole plane, and T-04's edge.
+//! Slow, and made to be believed.
 
 use std::collections::BTreeSet;
 
@@ -153,8 +153,8 @@ pub fn numbers(mask: Mask) -> (u32, u32) {
     (sum(b'x'), sum(b'o'))
 }
 
-/// Whether the mask hits at a point.
-pub fn hits(x: &Points, mask: Mask, (zx, zy): (i32, i32)) -> bool {
+/// Whether all that a mask asks at a point is so.
+pub fn fits(x: &Points, mask: Mask, (zx, zy): (i32, i32)) -> bool {
     (0..9).all(|bit| {
         let here = x.contains(&(zx + bit % 3 - 1, zy + bit / 3 - 1));
         match mask[bit as usize / 3][bit as usize % 3] {
@@ -165,9 +165,17 @@ pub fn hits(x: &Points, mask: Mask, (zx, zy): (i32, i32)) -> bool {
     })
 }
 
-/// The points that a mask hits.
-pub fn hit_or_miss(x: &Points, mask: Mask) -> Points {
-    x.iter().copied().filter(|&z| hits(x, mask, z)).collect()
+/// "Points whose whole 3 by 3 neighbourhood lies on the sheet".
+pub fn interior(w: u32, h: u32) -> Points {
+    let (sheet, block) = (frame(w, h).collect(), element(reference::SQUARE));
+    let whole = |z: &(i32, i32)| moved(&block, *z).is_subset(&sheet);
+    frame(w, h).filter(whole).collect()
+}
+
+/// The points that a mask hits. `judged` are those that can be.
+pub fn hit_or_miss(judged: &Points, x: &Points, mask: Mask) -> Points {
+    let hit = |z: &(i32, i32)| fits(x, mask, *z);
+    (x & judged).into_iter().filter(hit).collect()
 }
 
 /// Thinning by steps of any kind: what is left and the passes made.
@@ -186,6 +194,6 @@ pub fn thin(x: &Points, step: impl Fn(&Points, Mask) -> Points) -> (Points, u32)
 }
 
 /// The step of 01: all hit points at once, judged on the image before the step.
-pub fn thin_step(x: &Points, mask: Mask) -> Points {
-    x - &hit_or_miss(x, mask)
+pub fn thin_step(judged: &Points, x: &Points, mask: Mask) -> Points {
+    x - &hit_or_miss(judged, x, mask)
 }

@@ -306,11 +306,11 @@ fn row_4_not_for_an_image_only_written() {
     let answer = reference::reconstruct(w, h, RIGHT, 0, &[2, 0, 0], &mut written, &mut work);
     assert_eq!((answer, written), (Area(2), [0xC0]));
     written = [0xFF];
-    let answer = reference::hit_or_miss(w, h, 16, 0, &read, &mut written);
-    assert_eq!((answer, written), (Area(2), [0xC0]));
-    written = [0xFF];
     let answer = reference::open(w, h, RIGHT, 1, &read, &mut written, &mut work);
     assert_eq!((answer, written), (Area(2), [0xC0]));
+    let mut written = [0xFF; 3];
+    let answer = reference::hit_or_miss(3, 3, 16, 0, &full(3, 3), &mut written);
+    assert_eq!((answer, written), (Area(1), [0, 0x40, 0]));
 }
 
 #[test]

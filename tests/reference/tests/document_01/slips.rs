@@ -66,40 +66,43 @@ fn slip_outside_taken_as_foreground() {
 
 #[test]
 fn slip_two_masks_joined_in_one_step() {
-    let (w, h, bytes) = image("111/111/111");
-    let x = plain::foreground(w, h, &bytes);
-    let joined = plain::hit_or_miss(&x, HOUSE[0]);
-    let joined = &(&x - &joined) - &plain::hit_or_miss(&x, HOUSE[1]);
-    assert_eq!(draw(w, &plain::packed(w, h, &joined)), "100/111/111");
-    let first = plain::thin_step(&x, HOUSE[0]);
-    let second = plain::thin_step(&first, HOUSE[1]);
-    assert_eq!(draw(w, &plain::packed(w, h, &second)), "101/111/111");
-    // The operation takes the steps one by one: K keeps (2,0).
+    let (w, h, bytes) = image("00000/01110/01110/01110/00000");
+    let (x, interior) = (plain::foreground(w, h, &bytes), plain::interior(w, h));
+    let drawn = |x: &Points| draw(w, &plain::packed(w, h, x));
+    let joined = plain::hit_or_miss(&interior, &x, HOUSE[0]);
+    let joined = &(&x - &joined) - &plain::hit_or_miss(&interior, &x, HOUSE[1]);
+    assert_eq!(drawn(&joined), "00000/01000/01110/01110/00000");
+    let first = plain::thin_step(&interior, &x, HOUSE[0]);
+    let second = plain::thin_step(&interior, &first, HOUSE[1]);
+    assert_eq!(drawn(&second), "00000/01010/01110/01110/00000");
+    // The operation takes the steps one by one: K keeps (3,1).
     let (_, thinned) = calls::thin(w, h, &bytes);
-    assert_eq!(draw(w, &thinned), "101/110/100");
+    assert_eq!(draw(w, &thinned), "00000/01010/01100/01000/00000");
 }
 
 #[test]
 fn slip_hit_tested_against_pixels_removed_in_the_same_step() {
+    let (w, h, bytes) = image("0000000/0111110/0111110/0111110/0000000");
+    let (x, interior) = (plain::foreground(w, h, &bytes), plain::interior(w, h));
+    let step = |x: &Points, mask: Mask| plain::thin_step(&interior, x, mask);
     let in_place = |x: &Points, mask: Mask| {
         let mut left = x.clone();
-        for z in plain::frame(20, 20).filter(|z| x.contains(z)) {
-            if plain::hits(&left, mask, z) {
+        for z in plain::frame(w, h).filter(|z| x.contains(z) && interior.contains(z)) {
+            if plain::fits(&left, mask, z) {
                 left.remove(&z);
             }
         }
         left
     };
-    let (w, h, bytes) = image("11111/11111/11111");
-    let x = plain::foreground(w, h, &bytes);
-    let step = plain::thin_step(&x, HOUSE[0]);
-    assert_eq!(draw(w, &plain::packed(w, h, &step)), "10001/11111/11111");
-    let slip = in_place(&x, HOUSE[0]);
-    assert_eq!(draw(w, &plain::packed(w, h, &slip)), "10001/11011/11111");
+    let drawn = |x: &Points| draw(w, &plain::packed(w, h, x));
+    let first = "0000000/0100010/0111110/0111110/0000000";
+    assert_eq!(drawn(&step(&x, HOUSE[0])), first);
+    let slip = "0000000/0100010/0110110/0111110/0000000";
+    assert_eq!(drawn(&in_place(&x, HOUSE[0])), slip);
     // The operation judges on the image before the step.
     let (_, hits) = calls::hit_or_miss(w, h, 464, 7, &bytes);
-    assert_eq!(draw(w, &hits), "01110/00000/00000");
-    let thinned = plain::packed(w, h, &plain::thin(&x, plain::thin_step).0);
+    assert_eq!(draw(w, &hits), "0000000/0011100/0000000/0000000/0000000");
+    let thinned = plain::packed(w, h, &plain::thin(&x, step).0);
     assert_ne!(thinned, plain::packed(w, h, &plain::thin(&x, in_place).0));
     assert_eq!(calls::thin(w, h, &bytes).1, thinned);
 }
