@@ -13,10 +13,10 @@ use lib.Pow.{shr-shr}
 use lib.Seq.{length-take-le}
 use Rattle.morphology.specs.Element.{bit}
 use Rattle.raster.specs.Limits.{maxStride}
-use Rattle.raster.specs.Rows.{Pixelwise, PlaneIs, RowIs, RowJoined, join, readBit, rowBit}
-use Rattle.raster.proofs.PartLaws.{PartIs, cut-bit, part-back, part-bit, pixelwise-part}
+use Rattle.raster.specs.Rows.{Pixelwise, PlaneIs, RowJoined, join, readBit, rowBit}
+use Rattle.raster.proofs.PartLaws.{PartIs, cut-bit, part-back, part-bit}
 use Rattle.raster.proofs.RowLaws.{row-in, rowBit-same, rows-in}
-use Rattle.raster.proofs.PlaneLaws.{plane-same, rows-more}
+use Rattle.raster.proofs.PlaneLaws.{plane-same, rows-put}
 use Rattle.neighbours.specs.Neighbours.{Moved, NearRows, PlaneJoined, columnOf, fiveOf, isWithin, joined, nearBit, neighbours, rowsBit, source, sourceBit, stripBit, turned}
 use Rattle.neighbours.proofs.NeighbourLaws.{join-assoc, joined-more, joined-same, joined-swap, joined-unit, near-same, row-kept, turned-lt, zeros-bit}
 use Rattle.neighbours.proofs.JoinLaws.{plane-kept, plane-more}
@@ -205,9 +205,7 @@ rows-cleared r m s k u v ys ek h a b =
     let cut : length (take k (drop (m * r) v)) ≡ k = length-take-le k (drop (m * r) v) (omega (arith, length-drop (m * r) v)) in
     let b′ : Pixelwise (take k (drop (m * r) v)) ys (λ x b. b && isWithin r (x + s)) =
     subst (λ (n : ℕ). Pixelwise (take k (drop (m * r) v)) ys (λ x b. b && isWithin n (x + s))) (cut ∙ ek) b in
-    rows-more 0 r m u v (take (m * r) v ++ (ys ++ drop k (drop (m * r) v))) (λ y x b. b && isWithin r (x + s)) a
-    (subst (λ (d : ℕ). RowIs d r v (take (m * r) v ++ (ys ++ drop k (drop (m * r) v))) (λ x. rowBit v (8 * d + x) && isWithin r (x + s))) (sym (zero-add (m * r)))
-    (pixelwise-part (m * r) r k v ys (λ x b. b && isWithin r (x + s)) ek h b′))
+    rows-put 0 r m k (m * r) u v ys (λ y x b. b && isWithin r (x + s)) (sym (zero-add (m * r))) ek h a b′
 
 -- the moves there are
 pub moved-by : (m s : ℕ) (buf old new : List ℕ) → s ≡ m → Pixelwise old new (λ x b. rowBit buf (x + m)) → Pixelwise old new (λ x b. rowBit buf (x + s))

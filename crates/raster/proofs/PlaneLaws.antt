@@ -1,13 +1,15 @@
 -- Planes changed row by row, and rows within a plane.
 use mathlib.Core.Bool.{Bool}
-use mathlib.Core.List.{List}
-use mathlib.Core.Path.{_∙_, _≡_, ap, refl, sym}
-use Prim.Native.Nat.{_*_, _+_, _/_, _<_, ℕ}
+use mathlib.Core.List.{List, _++_}
+use mathlib.Core.Path.{_∙_, _≡_, ap, refl, subst, sym}
+use Prim.Native.Nat.{_*_, _+_, _/_, _<_, _≤_, ℕ}
 use native.Mathlib.Decide.{decLt}
 use native.Mathlib.Nat.{le-refl, not-suc-le-zero, suc-mul}
 use native.Mathlib.Numerals.{add-one}
 use native.Mathlib.Omega.{arith}
-use Rattle.raster.specs.Rows.{PlaneIs, RowIs, rowBit}
+use lib.ListN.{drop, length, take}
+use Rattle.raster.specs.Rows.{Pixelwise, PlaneIs, RowIs, rowBit}
+use Rattle.raster.proofs.PartLaws.{pixelwise-part}
 use Rattle.raster.proofs.RowLaws.{row-in, rowBit-same}
 
 pub plane-same : {p r m : ℕ} {old new : List ℕ} {g g′ : ℕ → ℕ → Bool} → PlaneIs p r m old new g → ((y x : ℕ) → y < m → g y x ≡ g′ y x)
@@ -41,3 +43,11 @@ rows-more p r m u v v′ g a b =
         ap (λ (n : ℕ). rowBit v′ (8 * (p + n * r) + x)) q ∙ b .pixels x e
         ∙ ap (g m x) (rowBit-same v u (8 * (p + m * r) + x) (a .after ((8 * (p + m * r) + x) / 8) (omega arith)))
         ∙ ap (λ (n : ℕ). g n x (rowBit u (8 * (p + n * r) + x))) (sym q)
+
+-- and that row taken out of the buffer, changed, and put back
+pub rows-put : (p r m k d : ℕ) (u v ys : List ℕ) (g : ℕ → ℕ → Bool → Bool) → d ≡ p + m * r → k ≡ r → d + r ≤ length v
+    → PlaneIs p r m u v (λ y x. g y x (rowBit u (8 * (p + y * r) + x))) → Pixelwise (take k (drop d v)) ys (g m)
+    → PlaneIs p r (m + 1) u (take d v ++ (ys ++ drop k (drop d v))) (λ y x. g y x (rowBit u (8 * (p + y * r) + x)))
+rows-put p r m k d u v ys g ed ek h a b =
+    let v′ = take d v ++ (ys ++ drop k (drop d v)) in
+    rows-more p r m u v v′ g a (subst (λ (n : ℕ). RowIs n r v v′ (λ x. g m x (rowBit v (8 * n + x)))) ed (pixelwise-part d r k v ys (g m) ek h b))

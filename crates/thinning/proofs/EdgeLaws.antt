@@ -1,17 +1,14 @@
--- The edge of the frame cleared, row after row.
+-- The edge of the frame cleared in a row.
 use mathlib.Core.Bool.{Bool, _&&_, and-assoc, and-false, and-true, false, true}
-use mathlib.Core.List.{List, _++_}
-use mathlib.Core.Path.{_∙_, _≡_, ap, subst, sym}
-use Prim.Native.Nat.{_*_, _+_, _-_, _<_, _≤_, ℕ}
-use native.Mathlib.Nat.{zero-add}
+use mathlib.Core.List.{List}
+use mathlib.Core.Path.{_∙_, _≡_, ap, sym}
+use Prim.Native.Nat.{_+_, _-_, _<_, _≤_, ℕ}
 use native.Mathlib.Omega.{arith}
 use borrow.Author.Tests.{le-leb, le-ltb, lt-leb, lt-ltb}
 use lib.Dec.{leb, ltb, ltb→lt, lt→ltb}
-use lib.ListN.{drop, length, length-replicate, replicate, take}
+use lib.ListN.{length, length-replicate, replicate}
 use Rattle.morphology.proofs.TestLaws.{T-ext}
-use Rattle.raster.specs.Rows.{Pixelwise, PlaneIs, RowIs, rowBit}
-use Rattle.raster.proofs.PartLaws.{pixelwise-part}
-use Rattle.raster.proofs.PlaneLaws.{rows-more}
+use Rattle.raster.specs.Rows.{Pixelwise, rowBit}
 use Rattle.neighbours.proofs.NeighbourLaws.{zeros-bit}
 use Rattle.thinning.specs.Hits.{inner}
 
@@ -54,16 +51,3 @@ last-row h y e = ap (λ (b : Bool). leb 1 y && b) (le-ltb (y + 1) h (omega arith
 pub inner-row : (h y : ℕ) → (y ≡ 0 → ⊥) → y < h → (y + 1 ≡ h → ⊥) → inner h y ≡ true
 inner-row h y first l last =
     ap (λ (b : Bool). b && ltb (y + 1) h) (le-leb 1 y (omega (arith, first))) ∙ lt-ltb (y + 1) h (omega (arith, last))
-
--- ---- row after row
-
--- a plane whose first m rows are cleared, and the next one
-pub edge-more : (w h r m k : ℕ) (u v ys : List ℕ) → k ≡ r → m * r + r ≤ length v
-    → PlaneIs 0 r m u v (λ y x. rowBit u (8 * (0 + y * r) + x) && (inner w x && inner h y))
-    → Pixelwise (take k (drop (m * r) v)) ys (λ x b. b && (inner w x && inner h m))
-    → PlaneIs 0 r (m + 1) u (take (m * r) v ++ (ys ++ drop k (drop (m * r) v))) (λ y x. rowBit u (8 * (0 + y * r) + x) && (inner w x && inner h y))
-edge-more w h r m k u v ys e l a b =
-    let v′ = take (m * r) v ++ (ys ++ drop k (drop (m * r) v)) in
-    rows-more 0 r m u v v′ (λ y x b. b && (inner w x && inner h y)) a
-    (subst (λ (d : ℕ). RowIs d r v v′ (λ x. rowBit v (8 * d + x) && (inner w x && inner h m))) (sym (zero-add (m * r)))
-    (pixelwise-part (m * r) r k v ys (λ x b. b && (inner w x && inner h m)) e l b))

@@ -1,5 +1,5 @@
 -- What a mask asks of the pixels around a pixel: its foreground element of the pixels, its background element of the pixels inverted.
--- Definitions only; proofs/HitRows.antt has the laws.
+-- And which columns and rows are not the edge. Definitions only; proofs/HitRows.antt and EdgeLaws.antt have the laws.
 use mathlib.Core.Bool.{Bool, _&&_, false, not}
 use Prim.Native.Nat.{_%_, _*_, _+_, _/_, ℕ}
 use lib.Dec.{leb, ltb}

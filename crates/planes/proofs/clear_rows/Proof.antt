@@ -1,7 +1,7 @@
 -- `planes::clear_rows` meets its contract.
 -- The invariant: the padding of the first y rows is cleared, and nothing else is changed. The measure is the rows left.
 use mathlib.Core.Bool.{_&&_}
-use mathlib.Core.Path.{_≡_, subst}
+use mathlib.Core.Path.{_≡_, refl, subst}
 use Prim.Native.Nat.{_*_, _+_, _-_, _≤_, ℕ}
 use native.Mathlib.Omega.{arith}
 use denote.Ref.{now}
@@ -9,9 +9,8 @@ use lib.Dec.{ltb}
 use lib.ListN.{drop, length, length-drop}
 use lib.Seq.{length-take-le}
 use Rattle.raster.specs.Rows.{PlaneIs, rowBit}
-use Rattle.raster.proofs.PartLaws.{pixelwise-part}
 use Rattle.raster.proofs.RowLaws.{row-at}
-use Rattle.raster.proofs.PlaneLaws.{rows-more, rows-none}
+use Rattle.raster.proofs.PlaneLaws.{rows-none, rows-put}
 use Rattle.planes.proofs.clear_rows.Statement.{statement}
 use Rattle.planes.proofs.clear_rows.Tie as tie
 
@@ -78,8 +77,8 @@ loop-again c =
     let d = a .p + l .y * a .r in
     let i = row-at (a .p) (l .y) (a .h) (a .r) (length (now (a .work))) (c .before .before .before .before .loop-test .taken) (s .pre .0) in (
       omega arith,
-      rows-more (a .p) (a .r) (l .y) (now (a .work)) (l .work) _ (λ y x b. b && ltb x (a .w)) (l .inv .1)
-          (pixelwise-part d (a .r) (d + a .r - d) (l .work) _ (λ x b. b && ltb x (a .w)) (omega arith) (omega (arith, i, l .inv .1 .size)) (c .before .before .clear-padding .ensures)),
+      rows-put (a .p) (a .r) (l .y) (d + a .r - d) d (now (a .work)) (l .work) _ (λ y x b. b && ltb x (a .w)) refl (omega arith)
+          (omega (arith, i, l .inv .1 .size)) (l .inv .1) (c .before .before .clear-padding .ensures),
     )
 
 same-length : tie.Need-same-length Inv-loop μ-loop

@@ -8,10 +8,9 @@ use lib.ListN.{drop, length, length-drop}
 use lib.Seq.{length-take-le}
 use Rattle.raster.specs.Frames.{Frame}
 use Rattle.raster.specs.Rows.{PlaneIs, rowBit}
-use Rattle.raster.proofs.PlaneLaws.{rows-none}
+use Rattle.raster.proofs.PlaneLaws.{rows-none, rows-put}
 use Rattle.raster.proofs.RowLaws.{row-in}
 use Rattle.thinning.specs.Hits.{inner}
-use Rattle.thinning.proofs.EdgeLaws.{edge-more}
 use Rattle.thinning.proofs.edges.clear.Statement.{statement}
 use Rattle.thinning.proofs.edges.clear.Tie as tie
 
@@ -72,8 +71,11 @@ loop-again c =
     let in-loop = at-clear-row .before .before in
     let a = start in-loop .args in
     let l = in-loop .before .loop in
-    let d = l .y * a .r in
-    (omega arith, edge-more (a .w) (a .h) (a .r) (l .y) (d + a .r - d) (now (a .plane)) (l .plane) _ (omega arith) (fits in-loop) (l .inv .1) (at-clear-row .clear-row .ensures))
+    let d = l .y * a .r in (
+      omega arith,
+      rows-put 0 (a .r) (l .y) (d + a .r - d) d (now (a .plane)) (l .plane) _ (λ y x b. b && (inner (a .w) x && inner (a .h) y)) (omega arith)
+          (omega arith) (fits in-loop) (l .inv .1) (at-clear-row .clear-row .ensures),
+    )
 
 same-length : tie.Need-same-length Inv-loop μ-loop
 same-length c = c .before .loop .inv .1 .size
