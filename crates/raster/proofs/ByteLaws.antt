@@ -95,8 +95,8 @@ moved-bit a b d k ha hb hd hk =
     ∙ ap (λ (n : ℕ). v / 2 ^ n % 2) (omega arith))
 
 -- the lowest k bits cleared, as a word: a byte still, and pixels from 8 - k on are background
-pub cleared-small : (v k : ℕ) → v < 256 → (v / 2 ^ k * 2 ^ k) % 2 ^ 32 < 256
-cleared-small v k hv = omega (arith, div-mul-le-self v (2 ^ k))
+pub cleared-small : (v : ℕ) → v < 256 → (k : ℕ) → (v / 2 ^ k * 2 ^ k) % 2 ^ 32 < 256
+cleared-small v hv k = omega (arith, div-mul-le-self v (2 ^ k))
 
 pub cleared-bit : (v k j : ℕ) → v < 256 → k ≤ 8 → j < 8 → bitOf ((v / 2 ^ k * 2 ^ k) % 2 ^ 32) j ≡ (bitOf v j && ltb j (8 - k))
 unfolding bitOf

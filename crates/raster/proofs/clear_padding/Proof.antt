@@ -41,9 +41,7 @@ shl-row : tie.Need-shl-row
 shl-row c = search needs
 
 cast-row-2 : tie.Need-cast-row-2
-cast-row-2 c =
-    let h = cleared-small (last c) (length (now (c .before .args .row)) * 8 - c .before .args .w) (byte c) in
-    search needs
+cast-row-2 c = search (needs, cleared-small (last c) (byte c))
 
 slice-write-row : tie.Need-slice-write-row
 slice-write-row c = search needs
