@@ -65,8 +65,8 @@ impl Frame {
         refuse(4, last_bytes.any(|byte| byte & unused != 0))
     }
 
-    /// Row 5: every point of size `cut` and up, dilated to its size, stays in the frame.
-    pub fn fitting(self, element: &Offsets, cut: u32, labels: &[u8]) -> Result<(), u8> {
+    /// Row 5: every point, dilated to its size, stays in the frame. One of size 0 does anywhere.
+    pub fn fitting(self, element: &Offsets, labels: &[u8]) -> Result<(), u8> {
         let (width, height) = (self.width as isize, self.height as isize);
         let fits = |x: usize, y: usize, label: u8| {
             let (x, y, size) = (x as isize, y as isize, label as isize - 1);
@@ -76,11 +76,10 @@ impl Frame {
                 && y + size * element.bottom < height
         };
         for (y, row) in labels.chunks_exact(self.width).enumerate() {
-            if largest(row) as u32 <= cut {
+            if largest(row) <= 1 {
                 continue;
             }
-            let kept = |label: u8| label as u32 > cut;
-            let leaves = |(x, &label): (usize, &u8)| kept(label) && !fits(x, y, label);
+            let leaves = |(x, &label): (usize, &u8)| label > 1 && !fits(x, y, label);
             refuse(5, row.iter().enumerate().any(leaves))?;
         }
         Ok(())

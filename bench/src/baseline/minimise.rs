@@ -20,7 +20,7 @@ pub fn minimise(
     let element = Offsets::element(element)?;
     frame.lengths(&[], Some(labels), work)?;
     refuse(3, counters.len() != frame.pixels())?;
-    frame.fitting(&element, 0, labels)?;
+    frame.fitting(&element, labels)?;
     counters.fill(0);
     let mut present = [false; 256];
     for &label in labels.iter() {

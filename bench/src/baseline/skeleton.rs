@@ -148,7 +148,7 @@ pub fn reconstruct(
     let frame = Frame::new(w, h)?;
     let element = Offsets::element(element)?;
     frame.lengths(&[image], Some(labels), work)?;
-    frame.fitting(&element, cut, labels)?;
+    frame.fitting(&element, labels)?;
     refuse(7, cut > 255)?;
     let [mut plane, mut next, _] = frame.planes(work);
     plane.fill(0);

@@ -11,6 +11,7 @@ use lib.Dec.{T, eqb}
 use lib.IntN.{pos}
 use lib.ListN.{getD}
 use Rattle.claims.specs.Claims.{
+  BadAtAnyCut,
   Buffers,
   CutIsOpening,
   EdgeStays,
@@ -89,6 +90,7 @@ use Rattle.claims.proofs.FormulaLaws.{
   size-in,
   size-out,
 }
+use Rattle.claims.proofs.MapLaws.{bad-or-sound}
 use Rattle.claims.proofs.RowLaws.{refuses}
 use Rattle.claims.proofs.ShorteningLaws.{shortening}
 use Rattle.claims.proofs.SieveLaws.{sieves-open}
@@ -104,7 +106,7 @@ use Rattle.morphology.proofs.LabelLaws.{of-places, on-places}
 use Rattle.morphology.proofs.MorphologyLaws.{eroded-zero, open-zero, ⊆-of-eq}
 use Rattle.morphology.proofs.PlaneLaws.{Empty, byte-lt, on-sub, pack-empty, plane-back}
 use Rattle.morphology.proofs.ReconstructLaws.{reconstruction-on}
-use Rattle.morphology.proofs.RefusalLaws.{Clear, T-of-not, decompose-passes, false-of, good, reconstruct-passes, side-le, unless-in}
+use Rattle.morphology.proofs.RefusalLaws.{Clear, T-of-not, decompose-passes, good, reconstruct-passes, side-le, unless-in}
 use Rattle.morphology.proofs.SkeletonLaws.{label-above, label-formula, labels-le, open-on, reconstruction-open, skeleton-tame}
 use Rattle.morphology.proofs.SubsetLaws.{eroded-down, subset-in}
 use Rattle.morphology.proofs.TestLaws.{T-ext, and-l, and-r}
@@ -135,6 +137,9 @@ refuses-exactly = record {
   thinning = λ W H image work. refuses (thinRows W H image work) (image ∷ work ∷ []) _ tt refl;
 }
 
+pub bad-at-any-cut : BadAtAnyCut
+bad-at-any-cut = bad-or-sound
+
 -- ---- demand 2
 
 -- an accepted image is its set, packed
@@ -151,7 +156,7 @@ decomposed-is W H e image m w i el b =
     (decompose-passes W H e image m w (good W H image (i .passes)) el (b .labels) (b .work))
 
 pub labels-stay : LabelsStay
-labels-stay W H e image k el = false-of _ (skeleton-tame W H (offsets e) (element e el) (imageSet W H image) (image-on W H image) k)
+labels-stay W H e image el = skeleton-tame W H (offsets e) (element e el) (imageSet W H image) (image-on W H image)
 
 pub cut-is-opening : CutIsOpening
 unfolding reconstructed
@@ -163,7 +168,7 @@ cut-is-opening W H e image target labels work work′ k i el b b′ size h =
     let q : m ≡ s = ap output (decomposed-is W H e image labels work i el b) in
     let p : reconstructed W H e k s target work′ ≡ writes W H (reconstruction W H B k s) work′ =
     unless-in (firstRefusal (reconstructRows W H e k s target work′)) (target ∷ work′ ∷ []) (writes W H (reconstruction W H B k s) work′)
-    (reconstruct-passes W H e k s target work′ (good W H image (i .passes) .sides) el (length-labels W H B X) size b′ (labels-stay W H e image k el) h) in
+    (reconstruct-passes W H e s (good W H image (i .passes) .sides) el (length-labels W H B X) k target work′ size b′ (labels-stay W H e image el) h) in
     ap (λ (l : List ℕ). reconstructed W H e k l target work′) q ∙ p
     ∙ ap (λ (Y : Point → Bool). writes W H Y work′) (reconstruction-open W H B (element e el) X (image-on W H image) k)
 
@@ -248,7 +253,7 @@ labels-are-sizes W H e image labels work h = record {
 
 kept-on-frame : (W H e k : ℕ) (labels image work : List ℕ) → Clear (reconstructRows W H e k labels image work)
     → OnFrame W H (reconstruction W H (offsets e) k labels)
-kept-on-frame W H e k labels image work c = reconstruction-on W H (offsets e) (element e (T-of-not (isElement e) (c .1 .0))) labels k (c .1 .1 .1 .0)
+kept-on-frame W H e k labels image work c = reconstruction-on W H (offsets e) (element e (T-of-not (isElement e) (c .1 .0))) labels (c .1 .1 .1 .0) k
 
 pub rebuilds-the-union : RebuildsTheUnion
 rebuilds-the-union W H e k labels image work h z =

@@ -6,19 +6,20 @@ use mathlib.Core.Path.{_∙_, _≡_, ap, refl, subst, sym}
 use Prim.Native.Nat.{suc, zero, ℕ}
 use lib.Dec.{T, T-not, ltb, ltb→lt, lt→ltb}
 use lib.IntN.{negsuc, pos, ℤ}
-use Rattle.claims.specs.Formula.{Covered, Dilated, Eroded, Fold, HasSize, Hit, Ink, MaskOffset, Offset, Set, Within}
+use Rattle.claims.specs.Formula.{Covered, Dilated, Eroded, Fold, HasSize, Hit, Ink, MaskOffset, Offset, Set, Wild, Within}
 use Rattle.morphology.specs.Element.{maskOffsets, offset, offsets}
 use Rattle.morphology.specs.Image.{imageSet, onFrame, pixel}
 use Rattle.morphology.specs.Labels.{labelAt, places}
 use Rattle.morphology.specs.Lists.{everyOf}
 use Rattle.morphology.specs.Morphology.{dilate, erode, opening, times}
 use Rattle.morphology.specs.Point.{Point, _⊞_, at}
+use Rattle.morphology.specs.Refusals.{isWild}
 use Rattle.morphology.specs.Skeleton.{reconstruction, skeletonSubset}
 use Rattle.morphology.specs.Thinning.{hit, interior}
-use Rattle.morphology.proofs.ElementLaws.{below-out, in-below}
+use Rattle.morphology.proofs.ElementLaws.{Element, below-out, in-below}
 use Rattle.morphology.proofs.LabelLaws.{in-places, labelAt-at, of-places}
 use Rattle.morphology.proofs.MorphologyLaws.{dilate-in, dilate-out, erode-in, erode-out, sum-out, times-suc}
-use Rattle.morphology.proofs.ReconstructLaws.{label-on}
+use Rattle.morphology.proofs.ReconstructLaws.{label-on, wild-in, wild-out}
 use Rattle.morphology.proofs.SubsetLaws.{reconstruct-in, reconstruct-out}
 use Rattle.morphology.proofs.TestLaws.{all-in, all-out, and-in, and-l, and-r, decide}
 use Rattle.morphology.proofs.ThinningLaws.{asked}
@@ -196,3 +197,14 @@ module _ (B : List Point) (P : Set) (l : Lists B P) where
         subst (λ (p : Point). T (reconstruction W H B k m p)) (sym (c .9))
         (reconstruct-in (places W H) B k n (labelAt W H m) (at (pos x) (pos y)) (c .3) (in-places W H x y (c .4) (c .5))
         (labelAt-at W H m x y (c .4) (c .5) ∙ c .6) (c .7) (fold-out n (c .8)))
+
+  -- ---- wild maps
+
+  module _ (W H : ℕ) (el : Element B) (m : List ℕ) where
+    pub bad-in : T (isWild W H B m) → Wild W H P m
+    bad-in t =
+        let r = wild-out W H B el m t in
+        (r .0, covered-in W H 0 m (r .0) (r .1), not-is (within-is W H) .to (r .2))
+
+    pub bad-out : Wild W H P m → T (isWild W H B m)
+    bad-out w = wild-in W H B el m (w .0) (covered-out W H 0 m (w .0) (w .1)) (not-is (within-is W H) .fro (w .2))

@@ -5,6 +5,7 @@ pub mod WritingLaws
 pub mod StopLaws
 pub mod SieveLaws
 pub mod ShorteningLaws
+pub mod MapLaws
 pub mod Claims
 pub mod SymbolLaws
 pub mod Codes

@@ -51,7 +51,7 @@ first-least lo ((n, false) ∷ rows) t k (List·Memᴰ·tail m) =
     let r = first-least n rows (rises-rest lo (n, false) rows t) k m in (omega (arith, rises-first lo (n, false) rows t), r .1)
 
 -- an outcome answers the number of the first row that holds
-unless-number : (n : ℕ) (lent : List (List ℕ)) (o : Outcome) → o .answer .refusal ≡ 0 → unless n lent o .answer .refusal ≡ n
+pub unless-number : (n : ℕ) (lent : List (List ℕ)) (o : Outcome) → o .answer .refusal ≡ 0 → unless n lent o .answer .refusal ≡ n
 unless-number zero lent o q = q
 unless-number (suc n) lent o q = refl
 

@@ -19,12 +19,13 @@ use Rattle.morphology.specs.Point.{Point}
 use Rattle.morphology.specs.Refusals.{firstRefusal, isSide, isWild, notPlaces, notPlane, row1, row2, row3, row7, shortWork, unless}
 use Rattle.morphology.specs.Skeleton.{reconstruction}
 use Rattle.morphology.proofs.CountLaws.{getD-greatest}
-use Rattle.morphology.proofs.CoverLaws.{of-covered, reconstruct-on, reconstruct-sub, sub-on, sub-tame, to-covered}
+use Rattle.morphology.proofs.CoverLaws.{of-covered, reconstruct-sub, sub-on, sub-tame, to-covered}
 use Rattle.morphology.proofs.ElementLaws.{Element, element}
 use Rattle.morphology.proofs.FrameLaws.{OnFrame}
 use Rattle.morphology.proofs.MinimalLaws.{Sub, minimal-covered, minimal-done, minimal-length, minimal-sub, own-pixel, set-sub, sub-label}
 use Rattle.morphology.proofs.MorphologyLaws.{set-ext, ⊆-of-eq}
 use Rattle.morphology.proofs.PlaneLaws.{pack-inj}
+use Rattle.morphology.proofs.ReconstructLaws.{reconstruction-on}
 use Rattle.morphology.proofs.RefusalLaws.{T-of-not, fits-plane, lengths-out, reconstruct-passes, unless-in}
 
 module _ (W H e : ℕ) (sides : T (isSide W && isSide H)) (te : T (isElement e)) where
@@ -32,7 +33,7 @@ module _ (W H e : ℕ) (sides : T (isSide W && isSide H)) (te : T (isElement e))
   B = offsets e
 
   -- the rows of a reconstruction at cut 0 see the length of the labels, and whether a point leaves the frame
-  rows-as : (m m′ image work : List ℕ) → length m′ ≡ length m → isWild W H B 0 m′ ≡ isWild W H B 0 m
+  rows-as : (m m′ image work : List ℕ) → length m′ ≡ length m → isWild W H B m′ ≡ isWild W H B m
       → firstRefusal (reconstructRows W H e 0 m′ image work) ≡ firstRefusal (reconstructRows W H e 0 m image work)
   rows-as m m′ image work =
       ap₂ (λ (n : ℕ) (wild : Bool).
@@ -40,14 +41,14 @@ module _ (W H e : ℕ) (sides : T (isSide W && isSide H)) (te : T (isElement e))
       (row1 W H ∷ row2 e ∷ row3 (not (eqb n (W * H)) ∷ notPlane W H image ∷ shortWork W H work ∷ []) ∷ (5, wild) ∷ row7 0 ∷ []))
 
   -- labels that are taken are rebuilt, whatever image and work hold
-  rebuilt : (m image work : List ℕ) → length m ≡ W * H → isWild W H B 0 m ≡ false → length image ≡ planeBytes W H → 3 * planeBytes W H ≤ length work
+  rebuilt : (m image work : List ℕ) → length m ≡ W * H → isWild W H B m ≡ false → length image ≡ planeBytes W H → 3 * planeBytes W H ≤ length work
       → reconstructed W H e 0 m image work ≡ writes W H (reconstruction W H B 0 m) work
   unfolding reconstructed
   rebuilt m image work places tame i w =
       unless-in (firstRefusal (reconstructRows W H e 0 m image work)) (image ∷ work ∷ []) (writes W H (reconstruction W H B 0 m) work)
-      (reconstruct-passes W H e 0 m image work sides te places i w tame zero-le)
+      (reconstruct-passes W H e m sides te places 0 image work i w tame zero-le)
 
-  minimal-of : (m : List ℕ) → length m ≡ W * H → isWild W H B 0 m ≡ false → Minimal W H e m (minimalLabels W H B m)
+  minimal-of : (m : List ℕ) → length m ≡ W * H → isWild W H B m ≡ false → Minimal W H e m (minimalLabels W H B m)
   unfolding minimalLabels reconstructed
   minimal-of m places tame = record {
     part = sub;
@@ -55,7 +56,7 @@ module _ (W H e : ℕ) (sides : T (isSide W && isSide H)) (te : T (isElement e))
         ap₂ (λ (n : ℕ) (X : Point → Bool). unless n (image ∷ work ∷ []) (writes W H X work)) (rows-as m m′ image work long (tame′ ∙ sym tame)) same;
     accepted = λ image work i w. ap (λ (o : Outcome). o .answer .refusal) (rebuilt m′ image work places′ tame′ i w);
     irredundant = λ image work i w j h v q.
-        let less = rebuilt (set m′ j 0) image work (length-set m′ j 0 ∙ places′) (sub-tame W H B el 0 (set m′ j 0) m′ (set-sub m′ j) tame′) i w in
+        let less = rebuilt (set m′ j 0) image work (length-set m′ j 0 ∙ places′) (sub-tame W H B el (set m′ j 0) m′ (set-sub m′ j) tame′) i w in
         lost j h (getD m′ j 0) refl v (sym (ap output less) ∙ q ∙ ap output (rebuilt m′ image work places′ tame′ i w));
   }
     where
@@ -74,14 +75,14 @@ module _ (W H e : ℕ) (sides : T (isSide W && isSide H)) (te : T (isElement e))
       places′ : length m′ ≡ W * H
       places′ = long ∙ places
 
-      tame′ : isWild W H B 0 m′ ≡ false
-      tame′ = sub-tame W H B el 0 m′ m sub tame
+      tame′ : isWild W H B m′ ≡ false
+      tame′ = sub-tame W H B el m′ m sub tame
 
       same : reconstruction W H B 0 m′ ≡ reconstruction W H B 0 m
       same = set-ext (reconstruct-sub W H B el m′ m sub) (λ z t. of-covered W H B el m′ z (minimal-covered W H B (greatest m) m z (to-covered W H B el m z t)))
 
       on : OnFrame W H (reconstruction W H B 0 m′)
-      on = reconstruct-on W H B el m′ tame′
+      on = reconstruction-on W H B el m′ tame′ 0
 
       lost : (i : ℕ) → i < W * H → (v : ℕ) → getD m′ i 0 ≡ v → getD m′ i 0 ≢ 0
           → pack W H (reconstruction W H B 0 (set m′ i 0)) ≡ pack W H (reconstruction W H B 0 m′) → ⊥

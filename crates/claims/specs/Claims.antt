@@ -1,6 +1,6 @@
--- The claims of 01, of hits and thinning as 02 moves them, as statements, on the operations as morphology/specs/Operations.antt defines them.
+-- The claims of 01, of bad maps, hits and thinning as 02 moves them, as statements, on the operations as morphology/specs/Operations.antt defines them.
 -- Definitions only; proofs/Claims.antt proves each.
-use mathlib.Core.Bool.{false, true}
+use mathlib.Core.Bool.{_&&_, false, true}
 use mathlib.Core.List.{List, List·Memᴰ, [], _++_, _∷_}
 use mathlib.Core.Logic.{_↔_, _≢_, _⊎_}
 use mathlib.Core.Path.{_≡_}
@@ -9,7 +9,7 @@ use lib.Dec.{T}
 use lib.IntN.{pos}
 use lib.ListN.{getD, length, replicate, set}
 use lib.Pow.{areBytes}
-use Rattle.claims.specs.Formula.{Covered, HasSize, Hit, Ink, MaskOffset, Offset, Set, Within}
+use Rattle.claims.specs.Formula.{Covered, HasSize, Hit, Ink, MaskOffset, Offset, Set, Wild, Within}
 use Rattle.claims.specs.Sieves.{Sieve, accepted, largestCut, sieveAll, sieveRefused}
 use Rattle.morphology.specs.Answers.{Outcome, foreground, outcome, output, refused, thinned}
 use Rattle.morphology.specs.Cases.{Settled}
@@ -36,13 +36,13 @@ use Rattle.morphology.specs.Operations.{
   thinRows,
 }
 use Rattle.morphology.specs.Point.{Point, _⊞_, at}
-use Rattle.morphology.specs.Refusals.{Row, firstRefusal, imageRows, isWild, maxSide}
+use Rattle.morphology.specs.Refusals.{Row, firstRefusal, imageRows, isSide, isWild, maxSide}
 use Rattle.morphology.specs.Skeleton.{skeletonLabels, skeletonSubset}
 use Rattle.morphology.specs.Thinning.{golayL, thinPass, thinPasses}
 
 -- ---- the settled cases
 
--- A to E and G to L come out as 01 says, J and K as 02 says.
+-- A to E and G to I come out as 01 says, J to L as 02 says.
 abbrev pub SettledCases : Type 0
 SettledCases = Settled
 
@@ -75,6 +75,34 @@ pub record RefusesExactly : Type 0 where
       → Refuses (minimiseRows W H e labels work counters) (labels ∷ work ∷ counters ∷ []) (minimised W H e labels work counters)
   pub hits : (W H : ℕ) (m : ℕ × ℕ) (image out : List ℕ) → Refuses (hitRows W H m image out) (out ∷ []) (hitOrMiss W H m image out)
   pub thinning : (W H : ℕ) (image work : List ℕ) → Refuses (thinRows W H image work) (image ∷ work ∷ []) (thin W H image work)
+
+-- (02) A map is bad at every cut or at none.
+
+-- a frame, an element and labels in order
+pub record Map (W H e : ℕ) (m : List ℕ) : Type 0 where
+  pub sides : T (isSide W && isSide H)
+  pub element : T (isElement e)
+  pub places : length m ≡ W * H
+
+-- Where image, work and counters have their lengths, with any contents, a reconstruction at whatever cut, above the largest side too,
+-- and a minimisation are refused with 5.
+pub record Bad (W H e : ℕ) (m : List ℕ) : Type 0 where
+  pub wild : Wild W H (Offset e) m
+  pub reconstruction : (k : ℕ) (image work : List ℕ) → length image ≡ planeBytes W H → 3 * planeBytes W H ≤ length work
+      → reconstructed W H e k m image work .answer .refusal ≡ 5
+  pub minimisation : (work counters : List ℕ) → 3 * planeBytes W H ≤ length work → length counters ≡ W * H
+      → minimised W H e m work counters .answer .refusal ≡ 5
+
+-- There neither is refused, at whatever cut up to the largest side.
+pub record Sound (W H e : ℕ) (m : List ℕ) : Type 0 where
+  pub stays : Wild W H (Offset e) m → ⊥
+  pub reconstruction : (k : ℕ) (image work : List ℕ) → k ≤ maxSide → length image ≡ planeBytes W H → 3 * planeBytes W H ≤ length work
+      → reconstructed W H e k m image work .answer .refusal ≡ 0
+  pub minimisation : (work counters : List ℕ) → 3 * planeBytes W H ≤ length work → length counters ≡ W * H
+      → minimised W H e m work counters .answer .refusal ≡ 0
+
+abbrev pub BadAtAnyCut : Type 0
+BadAtAnyCut = (W H e : ℕ) (m : List ℕ) → Map W H e m → Bad W H e m ⊎ Sound W H e m
 
 -- ---- demand 2: taking apart and rebuilding
 
@@ -152,11 +180,11 @@ RebuildIsExact =
     (W H e : ℕ) (image target labels work work′ : List ℕ) → Image W H image → T (isElement e) → Buffers W H labels work
     → 3 * planeBytes W H ≤ length work′ → length target ≡ planeBytes W H → Exact W H e image target labels work work′
 
--- The labels of an image never meet row 5, at any cut.
+-- The labels of an image never meet row 5.
 abbrev pub LabelsStay : Type 0
 LabelsStay =
-    (W H e : ℕ) (image : List ℕ) (k : ℕ) → T (isElement e)
-    → isWild W H (offsets e) k (skeletonLabels W H (offsets e) (imageSet W H image)) ≡ false
+    (W H e : ℕ) (image : List ℕ) → T (isElement e)
+    → isWild W H (offsets e) (skeletonLabels W H (offsets e) (imageSet W H image)) ≡ false
 
 -- ---- demand 3: a list of sieves
 

@@ -15,17 +15,16 @@ use lib.ListN.{drop, getD, length, length-drop, length-take, set, take}
 use lib.Seq.{getD-drop, getD-set-other, getD-set-same, getD-take, length-take-le}
 use Rattle.morphology.specs.Extent.{boxed, extent}
 use Rattle.morphology.specs.Labels.{labelAt, maxLabel, places}
-use Rattle.morphology.specs.Lists.{greatest, someOf, upTo}
+use Rattle.morphology.specs.Lists.{someOf, upTo}
 use Rattle.morphology.specs.Point.{Point, at, origin}
 use Rattle.morphology.specs.Refusals.{isWild, leaves}
-use Rattle.morphology.proofs.CountLaws.{any-suc, getD-greatest}
+use Rattle.morphology.proofs.CountLaws.{any-suc}
 use Rattle.morphology.proofs.CoverLaws.{in-upTo, of-upTo}
 use Rattle.morphology.proofs.ElementLaws.{Element}
 use Rattle.morphology.proofs.ExtentLaws.{box-exact}
 use Rattle.morphology.proofs.LabelLaws.{in-places, labelAt-at, of-places}
-use Rattle.morphology.proofs.RefusalLaws.{false-of}
 use Rattle.morphology.proofs.SkeletonLaws.{any-agree}
-use Rattle.morphology.proofs.TestLaws.{T-ext, and-in, and-l, and-r, any-in, any-out}
+use Rattle.morphology.proofs.TestLaws.{T-ext, and-in, and-l, and-r, any-in, any-out, not-and}
 use Rattle.elements.specs.Measures.{measure}
 use Rattle.raster.proofs.RowLaws.{row-in}
 use Rattle.containment.specs.Wild.{Limit, Limits, Room, over, roomAt, tooLarge}
@@ -75,31 +74,21 @@ room-forward W lo hi x a b h k f g n l =
 
 -- ---- the limit
 
--- a label n + 1 is above l exactly when its point is kept and its size has no room
-pub limit-is : (k r l : ℕ) → ((n : ℕ) → n < maxLabel → l ≤ n → (k ≤ n) × (r < n)) → ((n : ℕ) → n < maxLabel → k ≤ n → r < n → l ≤ n) → Limit k (λ n. leb n r) l
+-- a label n + 1 is above l exactly when its size has no room
+pub limit-is : (r l : ℕ) → ((n : ℕ) → n < maxLabel → n ≤ r → n < l) → ((n : ℕ) → n < maxLabel → r < n → l ≤ n) → Limit (λ n. leb n r) l
 unfolding tooLarge
-limit-is k r l f g zero h = le-ltb l 0 (omega arith)
-limit-is k r l f g (suc n) h = by (decLe k n) (decLe n r)
+limit-is r l f g zero h = le-ltb l 0 (omega arith)
+limit-is r l f g (suc n) h = by (decLe n r)
   where
-    by : Dec (k ≤ n) → Dec (n ≤ r) → ltb l (suc n) ≡ (leb k n && not (leb n r))
-    by (yes a) (yes b) = le-ltb l (suc n) (above (decLe l n)) ∙ sym (ap₂ (λ (s t : Bool). s && not t) (le-leb k n a) (le-leb n r b))
-      where
-        above : Dec (l ≤ n) → suc n ≤ l
-        above (yes q) = let z = f n (omega arith) q .1 in absurd (omega arith)
-        above (no q) = omega arith
-    by (yes a) (no b) = lt-ltb l (suc n) (let z = g n (omega arith) a (omega arith) in omega arith)
-        ∙ sym (ap₂ (λ (s t : Bool). s && not t) (le-leb k n a) (lt-leb n r (omega arith)))
-    by (no a) d = le-ltb l (suc n) (above (decLe l n)) ∙ sym (ap (λ (s : Bool). s && not (leb n r)) (lt-leb k n (omega arith)))
-      where
-        above : Dec (l ≤ n) → suc n ≤ l
-        above (yes q) = let z = f n (omega arith) q .0 in absurd (omega arith)
-        above (no q) = omega arith
+    by : Dec (n ≤ r) → ltb l (suc n) ≡ not (leb n r)
+    by (yes b) = le-ltb l (suc n) (f n (omega arith) b) ∙ sym (ap not (le-leb n r b))
+    by (no b) = lt-ltb l (suc n) (let z = g n (omega arith) (omega arith) in omega arith) ∙ sym (ap not (lt-leb n r (omega arith)))
 
 -- the limit of a coordinate
-pub limit-of : (k l : ℕ) (f g : ℕ → Bool) → ((n : ℕ) → n < maxLabel → f n ≡ g n) → Limit k f l → Limit k g l
+pub limit-of : (l : ℕ) (f g : ℕ → Bool) → ((n : ℕ) → n < maxLabel → f n ≡ g n) → Limit f l → Limit g l
 unfolding tooLarge
-limit-of k l f g e m zero h = m 0 h
-limit-of k l f g e m (suc n) h = m (suc n) h ∙ ap (λ (t : Bool). leb k n && not t) (e n (omega arith))
+limit-of l f g e m zero h = m 0 h
+limit-of l f g e m (suc n) h = m (suc n) h ∙ ap not (e n (omega arith))
 
 -- one column more
 pub limits-more : (P : ℕ → ℕ → Type 0) (limits : List ℕ) (x v : ℕ) → x < length limits → ((j : ℕ) → j < x → P j (getD limits j 0)) → P x v
@@ -130,56 +119,51 @@ any-more p n = ap (λ (k : ℕ). someOf p (upTo k)) (add-one n) ∙ any-suc p (�
 -- ---- the frame
 
 -- a point that leaves the frame leaves one of its sides
-leaves-sides : (W H : ℕ) (B : List Point) → List·Memᴰ origin B → (k x y v : ℕ)
-    → leaves W H B k (at (pos x) (pos y)) v
-    ≡ (tooLarge k (roomAt W (extent (measure true false) B) (extent (measure true true) B) x) v
-    || tooLarge k (roomAt H (extent (measure false false) B) (extent (measure false true) B) y) v)
+leaves-sides : (W H : ℕ) (B : List Point) → List·Memᴰ origin B → (x y v : ℕ)
+    → leaves W H B (at (pos x) (pos y)) v
+    ≡ (tooLarge (roomAt W (extent (measure true false) B) (extent (measure true true) B) x) v
+    || tooLarge (roomAt H (extent (measure false false) B) (extent (measure false true) B) y) v)
 unfolding leaves tooLarge boxed
-leaves-sides W H B ob k x y zero = refl
-leaves-sides W H B ob k x y (suc n) =
-    ap (λ (b : Bool). leb k n && not b) (box-exact W H B ob n (at (pos x) (pos y)))
-    ∙ either (leb k n) (roomAt W (extent (measure true false) B) (extent (measure true true) B) x n)
-    (roomAt H (extent (measure false false) B) (extent (measure false true) B) y n)
-  where
-    either : (a b c : Bool) → (a && not (b && c)) ≡ ((a && not b) || (a && not c))
-    either true true c = refl
-    either true false c = refl
-    either false b c = refl
+leaves-sides W H B ob x y zero = refl
+leaves-sides W H B ob x y (suc n) =
+    ap not (box-exact W H B ob n (at (pos x) (pos y)))
+    ∙ sym (not-and (roomAt W (extent (measure true false) B) (extent (measure true true) B) x n)
+    (roomAt H (extent (measure false false) B) (extent (measure false true) B) y n))
 
 -- a label of row y leaves the frame
-abbrev pub rowWild : ℕ → ℕ → List Point → ℕ → List ℕ → ℕ → Bool
-rowWild W H B k m y = someOf (λ x. leaves W H B k (at (pos x) (pos y)) (getD m (y * W + x) 0)) (upTo W)
+abbrev pub rowWild : ℕ → ℕ → List Point → List ℕ → ℕ → Bool
+rowWild W H B m y = someOf (λ x. leaves W H B (at (pos x) (pos y)) (getD m (y * W + x) 0)) (upTo W)
 
-wild-rows : (W H : ℕ) (B : List Point) (k : ℕ) (m : List ℕ) → isWild W H B k m ≡ someOf (rowWild W H B k m) (upTo H)
+wild-rows : (W H : ℕ) (B : List Point) (m : List ℕ) → isWild W H B m ≡ someOf (rowWild W H B m) (upTo H)
 unfolding isWild
-wild-rows W H B k m = T-ext to of
+wild-rows W H B m = T-ext to of
   where
-    to : T (someOf (λ p. leaves W H B k p (labelAt W H m p)) (places W H)) → T (someOf (rowWild W H B k m) (upTo H))
+    to : T (someOf (λ p. leaves W H B p (labelAt W H m p)) (places W H)) → T (someOf (rowWild W H B m) (upTo H))
     to t =
-        let r = any-out (λ p. leaves W H B k p (labelAt W H m p)) (places W H) t in
+        let r = any-out (λ p. leaves W H B p (labelAt W H m p)) (places W H) t in
         let q = of-places W H (r .1) in
         let x = q .0 in
         let y = q .1 in
-        let z : T (leaves W H B k (at (pos x) (pos y)) (getD m (y * W + x) 0)) =
-        subst T (ap (λ (p : Point). leaves W H B k p (labelAt W H m p)) (q .4) ∙ ap (leaves W H B k (at (pos x) (pos y))) (labelAt-at W H m x y (q .2) (q .3)))
+        let z : T (leaves W H B (at (pos x) (pos y)) (getD m (y * W + x) 0)) =
+        subst T (ap (λ (p : Point). leaves W H B p (labelAt W H m p)) (q .4) ∙ ap (leaves W H B (at (pos x) (pos y))) (labelAt-at W H m x y (q .2) (q .3)))
         (r .2) in
-        any-in (rowWild W H B k m) (in-upTo H y (q .3)) (any-in (λ x. leaves W H B k (at (pos x) (pos y)) (getD m (y * W + x) 0)) (in-upTo W x (q .2)) z)
+        any-in (rowWild W H B m) (in-upTo H y (q .3)) (any-in (λ x. leaves W H B (at (pos x) (pos y)) (getD m (y * W + x) 0)) (in-upTo W x (q .2)) z)
 
-    of : T (someOf (rowWild W H B k m) (upTo H)) → T (someOf (λ p. leaves W H B k p (labelAt W H m p)) (places W H))
+    of : T (someOf (rowWild W H B m) (upTo H)) → T (someOf (λ p. leaves W H B p (labelAt W H m p)) (places W H))
     of t =
-        let r = any-out (rowWild W H B k m) (upTo H) t in
+        let r = any-out (rowWild W H B m) (upTo H) t in
         let y = r .0 in
         let hy = of-upTo H (r .1) in
-        let s = any-out (λ x. leaves W H B k (at (pos x) (pos y)) (getD m (y * W + x) 0)) (upTo W) (r .2) in
+        let s = any-out (λ x. leaves W H B (at (pos x) (pos y)) (getD m (y * W + x) 0)) (upTo W) (r .2) in
         let x = s .0 in
         let hx = of-upTo W (s .1) in
-        any-in (λ p. leaves W H B k p (labelAt W H m p)) (in-places W H x y hx hy)
-        (subst T (sym (ap (leaves W H B k (at (pos x) (pos y))) (labelAt-at W H m x y hx hy))) (s .2))
+        any-in (λ p. leaves W H B p (labelAt W H m p)) (in-places W H x y hx hy)
+        (subst T (sym (ap (leaves W H B (at (pos x) (pos y))) (labelAt-at W H m x y hx hy))) (s .2))
 
 -- ---- the loop over the rows
 
 -- the element's extents, and the limits of the columns
-pub record Limited (W H : ℕ) (B : List Point) (k : ℕ) (m : List ℕ) (left right up down : ℕ) (limits : List ℕ) : Type 0 where
+pub record Limited (W H : ℕ) (B : List Point) (m : List ℕ) (left right up down : ℕ) (limits : List ℕ) : Type 0 where
   pub shape : Element B
   pub size : length m ≡ W * H
   pub labels : (i : ℕ) → getD m i 0 ≤ maxLabel
@@ -187,7 +171,7 @@ pub record Limited (W H : ℕ) (B : List Point) (k : ℕ) (m : List ℕ) (left r
   pub rightward : right ≡ extent (measure true true) B
   pub upward : up ≡ extent (measure false false) B
   pub downward : down ≡ extent (measure false true) B
-  pub columns : Limits W left right k limits
+  pub columns : Limits W left right limits
   pub room : W ≤ length limits
 
 -- row y, and its labels against the limits of their columns and of the row
@@ -198,14 +182,14 @@ abbrev pub rowOver : List ℕ → List ℕ → ℕ → Bool
 rowOver row limits l = someOf (λ x. over (getD row x 0) (getD limits x 0) l) (upTo (length row))
 
 -- a part of W labels has a limit for each
-pub part-limited : {W H : ℕ} {B : List Point} {k : ℕ} {m : List ℕ} {left right up down : ℕ} {limits : List ℕ} → Limited W H B k m left right up down limits
+pub part-limited : {W H : ℕ} {B : List Point} {m : List ℕ} {left right up down : ℕ} {limits : List ℕ} → Limited W H B m left right up down limits
     → (a : ℕ)
     → length (take (a + W - a) (drop a m)) ≤ length limits
 part-limited {W} {m = m} {limits = limits} r a =
     let n : ℕ = a + W - a in
     omega (arith, length-take n (drop a m), min-le-left n (length (drop a m)), r .room)
 
-module _ {W H : ℕ} {B : List Point} {k : ℕ} {m : List ℕ} {left right up down : ℕ} {limits : List ℕ} (r : Limited W H B k m left right up down limits) (y : ℕ)
+module _ {W H : ℕ} {B : List Point} {m : List ℕ} {left right up down : ℕ} {limits : List ℕ} (r : Limited W H B m left right up down limits) (y : ℕ)
     (h : y < H) where
   pub row-fits : y * W + W ≤ length m
   row-fits = omega (arith, row-in y H W (H * W) h (le-refl (H * W)), mul-comm H W, r .size)
@@ -216,44 +200,31 @@ module _ {W H : ℕ} {B : List Point} {k : ℕ} {m : List ℕ} {left right up do
       let e : n ≡ W = omega arith in
       length-take-le n (drop (y * W) m) (omega (arith, length-drop (y * W) m, row-fits)) ∙ e
 
-  module _ (l : ℕ) (row : Limit k (roomAt H up down y) l) where
-    label-exact : (x : ℕ) → x < W → over (getD (rowOf W m y) x 0) (getD limits x 0) l ≡ leaves W H B k (at (pos x) (pos y)) (getD m (y * W + x) 0)
+  module _ (l : ℕ) (row : Limit (roomAt H up down y) l) where
+    label-exact : (x : ℕ) → x < W → over (getD (rowOf W m y) x 0) (getD limits x 0) l ≡ leaves W H B (at (pos x) (pos y)) (getD m (y * W + x) 0)
     label-exact x hx =
         let v : ℕ = getD m (y * W + x) 0 in
         ap (λ (i : ℕ). over i (getD limits x 0) l) (getD-take (y * W + W - y * W) (drop (y * W) m) x 0 (omega arith) ∙ getD-drop (y * W) m x 0)
         ∙ ap₂ _||_ (r .columns x hx v (r .labels (y * W + x))) (row v (r .labels (y * W + x)))
-        ∙ ap₂ (λ (a b : ℕ). tooLarge k (roomAt W a b x) v || tooLarge k (roomAt H up down y) v) (r .leftward) (r .rightward)
-        ∙ ap₂ (λ (a b : ℕ). tooLarge k (roomAt W (extent (measure true false) B) (extent (measure true true) B) x) v || tooLarge k (roomAt H a b y) v)
+        ∙ ap₂ (λ (a b : ℕ). tooLarge (roomAt W a b x) v || tooLarge (roomAt H up down y) v) (r .leftward) (r .rightward)
+        ∙ ap₂ (λ (a b : ℕ). tooLarge (roomAt W (extent (measure true false) B) (extent (measure true true) B) x) v || tooLarge (roomAt H a b y) v)
         (r .upward) (r .downward)
-        ∙ sym (leaves-sides W H B (r .shape .centred) k x y v)
+        ∙ sym (leaves-sides W H B (r .shape .centred) x y v)
 
-    row-exact : rowOver (rowOf W m y) limits l ≡ rowWild W H B k m y
+    row-exact : rowOver (rowOf W m y) limits l ≡ rowWild W H B m y
     row-exact =
         ap (λ (i : ℕ). someOf (λ x. over (getD (rowOf W m y) x 0) (getD limits x 0) l) (upTo i)) row-length
-        ∙ any-agree (λ x. over (getD (rowOf W m y) x 0) (getD limits x 0) l) (λ x. leaves W H B k (at (pos x) (pos y)) (getD m (y * W + x) 0)) (upTo W)
+        ∙ any-agree (λ x. over (getD (rowOf W m y) x 0) (getD limits x 0) l) (λ x. leaves W H B (at (pos x) (pos y)) (getD m (y * W + x) 0)) (upTo W)
         (λ x i. label-exact x (of-upTo W i))
 
     -- a row that leaves the frame
-    pub wild-stop : rowOver (rowOf W m y) limits l ≡ true → true ≡ isWild W H B k m
+    pub wild-stop : rowOver (rowOf W m y) limits l ≡ true → true ≡ isWild W H B m
     wild-stop q =
-        sym (wild-rows W H B k m ∙ T-ext (λ u. tt) (λ u. any-in (rowWild W H B k m) (in-upTo H y h) (subst T (sym q ∙ row-exact) tt)))
+        sym (wild-rows W H B m ∙ T-ext (λ u. tt) (λ u. any-in (rowWild W H B m) (in-upTo H y h) (subst T (sym q ∙ row-exact) tt)))
 
     -- one that does not
-    pub wild-turn : rowOver (rowOf W m y) limits l ≡ false → someOf (rowWild W H B k m) (upTo y) ≡ false → someOf (rowWild W H B k m) (upTo (y + 1)) ≡ false
-    wild-turn q f = any-more (rowWild W H B k m) y ∙ ap₂ _||_ f (sym row-exact ∙ q)
+    pub wild-turn : rowOver (rowOf W m y) limits l ≡ false → someOf (rowWild W H B m) (upTo y) ≡ false → someOf (rowWild W H B m) (upTo (y + 1)) ≡ false
+    wild-turn q f = any-more (rowWild W H B m) y ∙ ap₂ _||_ f (sym row-exact ∙ q)
 
-pub wild-last : (W H : ℕ) (B : List Point) (k : ℕ) (m : List ℕ) (y : ℕ) → y ≡ H → someOf (rowWild W H B k m) (upTo y) ≡ false → false ≡ isWild W H B k m
-wild-last W H B k m y e f = sym (wild-rows W H B k m ∙ ap (λ (n : ℕ). someOf (rowWild W H B k m) (upTo n)) (sym e) ∙ f)
-
--- no label is above the cut: no point is kept
-pub none-kept : (W H : ℕ) (B : List Point) (k : ℕ) (m : List ℕ) → greatest m ≤ k → false ≡ isWild W H B k m
-unfolding leaves
-none-kept W H B k m h = sym (wild-rows W H B k m ∙ false-of (someOf (rowWild W H B k m) (upTo H)) (λ t.
-    let r = any-out (rowWild W H B k m) (upTo H) t in
-    let y = r .0 in
-    let s = any-out (λ x. leaves W H B k (at (pos x) (pos y)) (getD m (y * W + x) 0)) (upTo W) (r .2) in
-    dropped (at (pos (s .0)) (pos y)) (getD m (y * W + s .0) 0) (omega (arith, getD-greatest m (y * W + s .0))) (s .2)))
-  where
-    dropped : (p : Point) (v : ℕ) → v ≤ k → T (leaves W H B k p v) → ⊥
-    dropped p zero l t = t
-    dropped p (suc n) l t = let h = leb→le k n (and-l (leb k n) _ t) in absurd (omega arith)
+pub wild-last : (W H : ℕ) (B : List Point) (m : List ℕ) (y : ℕ) → y ≡ H → someOf (rowWild W H B m) (upTo y) ≡ false → false ≡ isWild W H B m
+wild-last W H B m y e f = sym (wild-rows W H B m ∙ ap (λ (n : ℕ). someOf (rowWild W H B m) (upTo n)) (sym e) ∙ f)

@@ -1,5 +1,5 @@
 -- Row 5 of the table of refusals by labels: a coordinate leaves room for sizes, and so for labels. Definitions only; proofs/WildLaws.antt has the laws.
-use mathlib.Core.Bool.{Bool, _&&_, _||_, false, not}
+use mathlib.Core.Bool.{Bool, _||_, false, not}
 use mathlib.Core.List.{List}
 use mathlib.Core.Path.{_≡_}
 use Prim.Native.Nat.{_*_, _<_, _≤_, suc, zero, ℕ}
@@ -9,10 +9,10 @@ use lib.ListN.{getD}
 use Rattle.morphology.specs.Extent.{fits}
 use Rattle.morphology.specs.Labels.{maxLabel}
 
--- a point with this label is kept from cut k on, and its size has no room
-unfoldable pub tooLarge : ℕ → (ℕ → Bool) → ℕ → Bool
-tooLarge k room zero = false
-tooLarge k room (suc n) = leb k n && not (room n)
+-- the size of a point with this label has no room
+unfoldable pub tooLarge : (ℕ → Bool) → ℕ → Bool
+tooLarge room zero = false
+tooLarge room (suc n) = not (room n)
 
 -- the sizes n that have room at x on a side of W, where the element goes lo back and hi forward
 abbrev pub roomAt : ℕ → ℕ → ℕ → ℕ → ℕ → Bool
@@ -23,12 +23,12 @@ abbrev pub Room : (ℕ → Bool) → ℕ → Type 0
 Room room r = (n : ℕ) → n < maxLabel → leb n r ≡ room n
 
 -- of the labels, those above l are too large
-abbrev pub Limit : ℕ → (ℕ → Bool) → ℕ → Type 0
-Limit k room l = (v : ℕ) → v ≤ maxLabel → ltb l v ≡ tooLarge k room v
+abbrev pub Limit : (ℕ → Bool) → ℕ → Type 0
+Limit room l = (v : ℕ) → v ≤ maxLabel → ltb l v ≡ tooLarge room v
 
 -- a limit for each x of a side
-abbrev pub Limits : ℕ → ℕ → ℕ → ℕ → List ℕ → Type 0
-Limits W lo hi k limits = (x : ℕ) → x < W → Limit k (roomAt W lo hi x) (getD limits x 0)
+abbrev pub Limits : ℕ → ℕ → ℕ → List ℕ → Type 0
+Limits W lo hi limits = (x : ℕ) → x < W → Limit (roomAt W lo hi x) (getD limits x 0)
 
 -- a label is above one of two limits
 abbrev pub over : ℕ → ℕ → ℕ → Bool

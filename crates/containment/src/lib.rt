@@ -1,4 +1,4 @@
-// Row 5 of the table of refusals: a kept point that leaves the frame.
+// Row 5 of the table of refusals: a point of a map that leaves the frame.
 ghost use mathlib.Core.Path.{_≡_};
 ghost use Prim.Native.Nat.{ℕ, _*_, _<_, _≤_};
 ghost use lib.Dec.{leb, ltb, T};
@@ -41,38 +41,32 @@ fn room(side: usize, lo: usize, hi: usize, x: usize) -> usize
     forward
 }
 
-// The largest label that may stand where sizes up to room fit: labels up to cut are dropped, and n + 1 is that of size n.
-fn limit(cut: u32, room: usize) -> u8
-    ensures { λ l. ⌜ Limit cut (λ n. leb n room) l ⌝ }
+// The largest label that may stand where sizes up to room fit: n + 1 is that of size n.
+fn limit(room: usize) -> u8
+    ensures { λ l. ⌜ Limit (λ n. leb n room) l ⌝ }
 {
-    if cut as usize > MAX_SIZE {
-        return MAX_LABEL;
-    }
     if room >= MAX_SIZE {
         return MAX_LABEL;
     }
-    if (cut as usize) < room + 1 {
-        return (room + 1) as u8;
-    }
-    cut as u8
+    (room + 1) as u8
 }
 
 // The largest label that may stand at x on a side.
-fn limit_at(side: usize, lo: usize, hi: usize, cut: u32, x: usize) -> u8
+fn limit_at(side: usize, lo: usize, hi: usize, x: usize) -> u8
     requires { ⌜ (lo ≤ 2) × (hi ≤ 2) × (x < side) ⌝ }
-    ensures { λ l. ⌜ Limit cut (roomAt side lo hi x) l ⌝ }
+    ensures { λ l. ⌜ Limit (roomAt side lo hi x) l ⌝ }
 {
-    limit(cut, room(side, lo, hi, x))
+    limit(room(side, lo, hi, x))
 }
 
 // The largest label that may stand in each column.
-fn column_limits(w: usize, lo: usize, hi: usize, cut: u32, limits: &mut [u8])
+fn column_limits(w: usize, lo: usize, hi: usize, limits: &mut [u8])
     requires { ⌜ (lo ≤ 2) × (hi ≤ 2) × (w ≤ length (now limits)) ⌝ }
-    ensures { λ _. ⌜ Limits w lo hi cut (now (limits .exit)) ⌝ }
+    ensures { λ _. ⌜ Limits w lo hi (now (limits .exit)) ⌝ }
 {
     let mut x: usize = 0;
     while x < w {
-        limits[x] = limit_at(w, lo, hi, cut, x);
+        limits[x] = limit_at(w, lo, hi, x);
         x = x + 1;
     }
 }
@@ -100,35 +94,24 @@ fn row_is_wild(row: &[u8], limits: &[u8], limit: u8) -> bool
     wild
 }
 
-// Whether a label is above the limit of its column or its row.
-fn has_wild(w: usize, h: usize, element: u32, cut: u32, labels: &[u8]) -> bool
+// Row 5: a point of the map, of whatever size, leaves the frame when it is dilated to it: its label is above the limit of its column or its row.
+pub fn is_wild(w: usize, h: usize, element: u32, labels: &[u8]) -> bool
     requires { ⌜ (w ≤ maxFrame) × (length (now labels) ≡ w * h) × T (isElement element) ⌝ }
-    ensures { λ r. ⌜ r ≡ isWild w h (offsets element) cut (now (labels .entry)) ⌝ }
+    ensures { λ r. ⌜ r ≡ isWild w h (offsets element) (now (labels .entry)) ⌝ }
 {
     let left = elements::extent(element, true, false);
     let right = elements::extent(element, true, true);
     let up = elements::extent(element, false, false);
     let down = elements::extent(element, false, true);
     let mut limits = [0u8; raster::MAX_FRAME];
-    column_limits(w, left, right, cut, &mut limits);
+    column_limits(w, left, right, &mut limits);
     let mut y: usize = 0;
     while y < h {
         let at = y * w;
-        if row_is_wild(&labels[at..at + w], &limits, limit_at(h, up, down, cut, y)) {
+        if row_is_wild(&labels[at..at + w], &limits, limit_at(h, up, down, y)) {
             return true;
         }
         y = y + 1;
     }
     false
-}
-
-// Row 5: a point of the map, kept from the cut on, leaves the frame when it is dilated to its size. Where none is kept, none is looked at.
-pub fn is_wild(w: usize, h: usize, element: u32, cut: u32, labels: &[u8]) -> bool
-    requires { ⌜ (w ≤ maxFrame) × (length (now labels) ≡ w * h) × T (isElement element) ⌝ }
-    ensures { λ r. ⌜ r ≡ isWild w h (offsets element) cut (now (labels .entry)) ⌝ }
-{
-    if label_read::greatest(labels) as u32 <= cut {
-        return false;
-    }
-    has_wild(w, h, element, cut, labels)
 }

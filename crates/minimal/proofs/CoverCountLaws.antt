@@ -11,7 +11,7 @@ use borrow.Author.Tests.{eq-eqb, ne-eqb}
 use lib.Dec.{T, T-not, eqb, eqb·suc-zero, eqb→eq, leb, leb→le, le→leb}
 use lib.ListN.{getD, length, set}
 use lib.Seq.{getD-set-other}
-use Rattle.morphology.specs.Image.{inside, onFrame}
+use Rattle.morphology.specs.Image.{onFrame}
 use Rattle.morphology.specs.Labels.{place, places, pointsOf}
 use Rattle.morphology.specs.Lists.{countOf, everyOf, someOf, tabulate, upTo}
 use Rattle.morphology.specs.Minimal.{covers, dropAt, dropSize, dropSizes, isRedundant, minimalBelow}
@@ -21,14 +21,14 @@ use Rattle.morphology.specs.Skeleton.{stamp}
 use Rattle.minimal.specs.Covers.{Stays, counts, cover, spread}
 use Rattle.morphology.proofs.CountLaws.{count-none, count-some, digit, digit-some}
 use Rattle.morphology.proofs.CoverLaws.{in-upTo, of-upTo}
-use Rattle.morphology.proofs.FrameLaws.{OnFrame}
+use Rattle.morphology.proofs.FrameLaws.{OnFrame, on-in}
 use Rattle.morphology.proofs.ImageLaws.{row-mem}
 use Rattle.morphology.proofs.LabelLaws.{getD-place, length-raster, on-places}
 use Rattle.morphology.proofs.MinimalLaws.{getD-dropped, minimal-sub, other}
 use Rattle.morphology.proofs.MorphologyLaws.{dilate-in, dilate-out}
 use Rattle.morphology.proofs.PointLaws.{same-eq, same-refl}
 use Rattle.morphology.proofs.ReconstructLaws.{times-mono}
-use Rattle.morphology.proofs.TestLaws.{T-ext, all-in, all-out, and-in, and-l, and-r, any-in, any-out, decide, or-l, or-out, or-r}
+use Rattle.morphology.proofs.TestLaws.{T-ext, all-in, all-out, and-in, and-r, any-in, any-out, decide, or-l, or-out, or-r}
 
 -- ---- counts of others
 
@@ -173,10 +173,7 @@ module _ (W H : ℕ) (B : List Point) where
 
   -- on the way to size n nothing is clipped
   pub spread-on : List·Memᴰ origin B → (n i k : ℕ) → Stays W H B n i → k ≤ n → OnFrame W H (spread W B k i)
-  spread-on ob n i k stay h = record {
-    across = λ z t. and-l (inside W (z .x)) (inside H (z .y)) (frame z t);
-    down = λ z t. and-r (inside W (z .x)) (inside H (z .y)) (frame z t);
-  }
+  spread-on ob n i k stay h = on-in W H (spread W B k i) frame
     where
       frame : (z : Point) → T (spread W B k i z) → T (onFrame W H z)
       frame z t =
@@ -187,11 +184,7 @@ module _ (W H : ℕ) (B : List Point) where
   pub frame-place : (z : Point) → T (onFrame W H z) → (x : ℕ) × (x < W * H) × (z ≡ place W x)
   unfolding places
   frame-place z t =
-      let on : OnFrame W H (onFrame W H) = record {
-        across = λ p u. and-l (inside W (p .x)) (inside H (p .y)) u;
-        down = λ p u. and-r (inside W (p .x)) (inside H (p .y)) u;
-      } in
-      let r = row-mem (place W) 0 (W * H) (on-places W H (onFrame W H) on z t) in
+      let r = row-mem (place W) 0 (W * H) (on-places W H (onFrame W H) (on-in W H (onFrame W H) (λ p u. u)) z t) in
       (r .0, r .1, r .2 ∙ ap (place W) (zero-add (r .0)))
 
   -- each place that the point covers counts two or more

@@ -1,7 +1,7 @@
 -- Minimisation whole: what the table of refusals lets pass, how it begins and ends, and the outcome.
 use mathlib.Core.List.{List, [], _++_, _∷_}
 use mathlib.Core.Path.{_∙_, _≡_, ap, ap₂, refl, subst, sym}
-use Prim.Native.Nat.{_*_, _+_, _/_, _<_, _≤_, zero-le, ℕ}
+use Prim.Native.Nat.{_*_, _+_, _/_, _<_, _≤_, ℕ}
 use native.Mathlib.Nat.{mul-le-mul, mul-pos}
 use native.Mathlib.Omega.{arith}
 use borrow.Author.Tests.{ltb-false}
@@ -16,7 +16,7 @@ use Rattle.morphology.specs.Operations.{cleared, minimiseRows, minimised, short
 use Rattle.morphology.specs.Refusals.{firstRefusal, maxSide, notPlaces, row5, shortWork}
 use Rattle.morphology.proofs.ElementLaws.{element}
 use Rattle.morphology.proofs.LabelLaws.{labelAt-place}
-use Rattle.morphology.proofs.ReconstructLaws.{kept-on}
+use Rattle.morphology.proofs.ReconstructLaws.{point-on}
 use Rattle.morphology.proofs.RefusalLaws.{checked-refused, fits-plane, unless-in}
 use Rattle.refusals.proofs.SideLaws.{shaped, sides-frame}
 use Rattle.iteration.specs.Steps.{Sheet}
@@ -28,7 +28,7 @@ use Rattle.minimal.specs.Sizes.{WalkBegun, Left, AllFit}
 
 pub passed : (W H e : ℕ) (m work c : List ℕ) {r : ℕ} → r ≡ firstRefusal (minimiseRows W H e m work c) → r ≡ 0 → Passed W H e m work c
 passed W H e m work c q z =
-    let d = shaped W H e (notPlaces W H m ∷ shortWork W H work ∷ notPlaces W H c ∷ []) (row5 W H (offsets e) 0 m ∷ []) tt q z in
+    let d = shaped W H e (notPlaces W H m ∷ shortWork W H work ∷ notPlaces W H c ∷ []) (row5 W H (offsets e) m ∷ []) tt q z in
     let l = d .lengths in
     record {
       wide = d .sides .wide;
@@ -58,7 +58,7 @@ module _ {W H e : ℕ} {m w c : List ℕ} (d : Passed W H e m w c) where
   passed-tame = record {
     places = d .places;
     few = passed-few;
-    stays = λ i n h q b k. kept-on W H (offsets e) (element e (d .element)) m 0 (d .stays) (place W i) n (labelAt-place W H m i h ∙ q) zero-le k;
+    stays = λ i n h q b k. point-on W H (offsets e) (element e (d .element)) m (d .stays) (place W i) n (labelAt-place W H m i h ∙ q) k;
   }
 
   pub passed-begun : (a : ℕ) (u : List ℕ) → a < length m → getD m a 0 ≡ greatest m → getD m a 0 ≤ maxLabel → length u ≡ length w

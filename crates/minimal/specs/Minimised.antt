@@ -29,7 +29,7 @@ pub record Passed (W H e : ℕ) (m w c : List ℕ) : Type 0 where
   pub places : length m ≡ W * H
   pub planes : 3 * planeBytes W H ≤ length w
   pub counters : length c ≡ W * H
-  pub stays : isWild W H (offsets e) 0 m ≡ false
+  pub stays : isWild W H (offsets e) m ≡ false
 
 -- the labels left and their number; work and counters cleared
 pub record Shortened (W H e : ℕ) (m w : List ℕ) (n : ℕ) (m′ w′ c′ : List ℕ) : Type 0 where

@@ -43,7 +43,7 @@ fn minimise_refusal(
     if shape != 0 {
         return shape;
     }
-    let wild = containment::is_wild(w as usize, h as usize, element, 0, labels);
+    let wild = containment::is_wild(w as usize, h as usize, element, labels);
     refusals::row(5, wild)
 }
 

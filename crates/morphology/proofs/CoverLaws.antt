@@ -1,22 +1,19 @@
 -- The reconstruction as the cover of the labelled places; what shortening keeps of it.
-use mathlib.Core.Bool.{Bool, _&&_, _||_, false, not, true}
+use mathlib.Core.Bool.{Bool, _||_, false, not}
 use mathlib.Core.List.{List, List·Memᴰ, List·Memᴰ·eq-of-singleton}
-use mathlib.Core.Logic.{_⊎_, inl, inr}
-use mathlib.Core.Path.{_∙_, _≡_, ap, ap₂, refl, subst, sym}
-use Prim.Native.Nat.{_*_, _<_, max, suc, zero, zero-le, ℕ}
+use mathlib.Core.Path.{_∙_, _≡_, ap, refl, subst, sym}
+use Prim.Native.Nat.{_*_, _<_, max, suc, zero, ℕ}
 use native.Mathlib.Nat.{suc-ne-zero, zero-add}
 use native.Mathlib.Numerals.{add-one}
 use native.Mathlib.Omega.{arith}
-use borrow.Author.Tests.{le-leb}
-use lib.Dec.{T, T-not, eqb, eqb-refl, leb}
+use lib.Dec.{T, T-not, eqb, eqb-refl}
 use lib.ListN.{getD}
-use Rattle.morphology.specs.Image.{inside, onFrame}
 use Rattle.morphology.specs.Labels.{labelAt, place, places, raster}
-use Rattle.morphology.specs.Lists.{everyOf, greatest, someOf, tabulate, upTo}
+use Rattle.morphology.specs.Lists.{greatest, someOf, tabulate, upTo}
 use Rattle.morphology.specs.Minimal.{covers, isRedundant, minimalLabels}
 use Rattle.morphology.specs.Morphology.{erode, opening, times}
 use Rattle.morphology.specs.Point.{Point, _⊞_, origin}
-use Rattle.morphology.specs.Refusals.{isWild, leaves}
+use Rattle.morphology.specs.Refusals.{isWild}
 use Rattle.morphology.specs.Skeleton.{reconstruct, reconstruction, skeletonFunction, skeletonLabels, skeletonSubset, stamp}
 use Rattle.morphology.proofs.ElementLaws.{Element}
 use Rattle.morphology.proofs.FrameLaws.{OnFrame}
@@ -25,10 +22,10 @@ use Rattle.morphology.proofs.LabelLaws.{getD-place, labelAt-place, plac
 use Rattle.morphology.proofs.MinimalLaws.{Sub, covered, covered-sub, covers-out, minimal-keeps, other}
 use Rattle.morphology.proofs.MorphologyLaws.{dilate-in, erode-out, erode-times, eroded-suc, sum-out, ⊆-of-eq}
 use Rattle.morphology.proofs.PointLaws.{assoc, unit}
-use Rattle.morphology.proofs.RefusalLaws.{false-of}
+use Rattle.morphology.proofs.ReconstructLaws.{reconstruction-on, tame-on}
 use Rattle.morphology.proofs.SkeletonLaws.{any-agree}
 use Rattle.morphology.proofs.SubsetLaws.{of-label, origin-times, subset-in}
-use Rattle.morphology.proofs.TestLaws.{all-out, and-l, and-r, any-in, any-out}
+use Rattle.morphology.proofs.TestLaws.{all-out, and-l, and-r, any-out}
 
 pub in-upTo : (n i : ℕ) → i < n → List·Memᴰ i (upTo n)
 in-upTo n i h = subst (λ (j : ℕ). List·Memᴰ j (upTo n)) (zero-add i) (mem-row (λ j. j) 0 n i h)
@@ -65,48 +62,8 @@ module _ (W H : ℕ) (B : List Point) (el : Element B) where
   sub-on m′ m f on = record { across = λ p t. on .across p (reconstruct-sub m′ m f p t); down = λ p t. on .down p (reconstruct-sub m′ m f p t) }
 
   -- and none of them leaves the frame where none of all does
-  pub sub-tame : (k : ℕ) (m′ m : List ℕ) → Sub m′ m → isWild W H B k m ≡ false → isWild W H B k m′ ≡ false
-  unfolding isWild leaves places
-  sub-tame k m′ m f tame = false-of _ (λ t.
-      let r = any-out (λ p. leaves W H B k p (labelAt W H m′ p)) (places W H) t in
-      let o = row-mem (place W) 0 (W * H) (r .1) in
-      go (o .0) (o .1) (subst (λ (p : Point). T (leaves W H B k p (labelAt W H m′ p))) (o .2 ∙ ap (place W) (zero-add (o .0))) (r .2)) (f (o .0)))
-    where
-      wild : (j v : ℕ) → getD m j 0 ≡ v → j < W * H → T (leaves W H B k (place W j) v) → ⊥
-      wild j v q h t =
-          subst T tame
-          (any-in (λ p. leaves W H B k p (labelAt W H m p)) (subst (λ (i : ℕ). List·Memᴰ (place W i) (places W H)) (zero-add j) (mem-row (place W) 0 (W * H) j h))
-          (subst (λ (v : ℕ). T (leaves W H B k (place W j) v)) (sym (labelAt-place W H m j h ∙ q)) t))
-
-      go : (j : ℕ) → j < W * H → T (leaves W H B k (place W j) (labelAt W H m′ (place W j))) → (getD m′ j 0 ≡ getD m j 0) ⊎ (getD m′ j 0 ≡ 0) → ⊥
-      go j h t (inl q) = wild j (getD m′ j 0) (sym q) h (subst (λ (v : ℕ). T (leaves W H B k (place W j) v)) (labelAt-place W H m′ j h) t)
-      go j h t (inr q) = subst (λ (v : ℕ). T (leaves W H B k (place W j) v)) (labelAt-place W H m′ j h ∙ q) t
-
-  -- an accepted map's reconstruction lies on the frame
-  pub reconstruct-on : (m : List ℕ) → isWild W H B 0 m ≡ false → OnFrame W H (reconstruction W H B 0 m)
-  unfolding isWild leaves places
-  reconstruct-on m tame = record {
-    across = λ p t. and-l (inside W (p .x)) (inside H (p .y)) (frame p t);
-    down = λ p t. and-r (inside W (p .x)) (inside H (p .y)) (frame p t);
-  }
-    where
-      grown : (j n : ℕ) → j < W * H → getD m j 0 ≡ suc n → (leb 0 n && not (everyOf (λ b. onFrame W H (place W j ⊞ b)) (times B n))) ≡ true → ⊥
-      grown j n h q t =
-          subst T tame
-          (any-in (λ p. leaves W H B 0 p (labelAt W H m p)) (subst (λ (i : ℕ). List·Memᴰ (place W i) (places W H)) (zero-add j) (mem-row (place W) 0 (W * H) j h))
-          (subst (λ (v : ℕ). T (leaves W H B 0 (place W j) v)) (sym (labelAt-place W H m j h ∙ q)) (subst T (sym t) tt)))
-
-      inside-all : (j n : ℕ) → j < W * H → getD m j 0 ≡ suc n → (b : Bool) → everyOf (λ b. onFrame W H (place W j ⊞ b)) (times B n) ≡ b → T b
-      inside-all j n h q true p = tt
-      inside-all j n h q false p =
-          grown j n h q (ap₂ (λ (x y : Bool). x && not y) (le-leb 0 n zero-le) p)
-
-      frame : (p : Point) → T (reconstruction W H B 0 m p) → T (onFrame W H p)
-      frame p t =
-          let r = any-out (covers W B m p) (upTo (W * H)) (to-covered m p t) in
-          let o = covers-out W H B m p (r .0) (r .2) in
-          let a = inside-all (r .0) (o .0) (of-upTo (W * H) (r .1)) (o .2) (everyOf (λ b. onFrame W H (place W (r .0) ⊞ b)) (times B (o .0))) refl in
-          subst (λ (z : Point). T (onFrame W H z)) (sym (o .4)) (all-out (λ b. onFrame W H (place W (r .0) ⊞ b)) a (o .3))
+  pub sub-tame : (m′ m : List ℕ) → Sub m′ m → isWild W H B m ≡ false → isWild W H B m′ ≡ false
+  sub-tame m′ m f tame = tame-on W H B el m′ (sub-on m′ m f (reconstruction-on W H B el m tame 0))
 
   -- ---- points of size 0 of an image's labels
 

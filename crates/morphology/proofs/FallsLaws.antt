@@ -1,8 +1,8 @@
 -- Laws of `fallsOff`: what it says of a set on the frame, of none, and by the box of the element. The rows that a dilation reaches.
-use mathlib.Core.Bool.{Bool, _&&_, _||_, cond, false, not, true}
-use mathlib.Core.List.{List, List·Memᴰ, [], _∷_}
+use mathlib.Core.Bool.{Bool, _&&_, cond, false, not}
+use mathlib.Core.List.{List, List·Memᴰ}
 use mathlib.Core.Logic.{_⊎_, inl, inr}
-use mathlib.Core.Path.{_∙_, _≡_, ap, refl, subst, sym}
+use mathlib.Core.Path.{_∙_, _≡_, ap, subst, sym}
 use Prim.Native.Nat.{_+_, _-_, _<_, _≤_, suc, ℕ}
 use native.Mathlib.Omega.{arith}
 use borrow.Author.Tests.{le-ltb}
@@ -10,20 +10,20 @@ use lib.Dec.{T}
 use lib.IntN.{_+ℤ_, negsuc, pos, ℤ}
 use Rattle.morphology.specs.Extent.{above, below, boxed, extent}
 use Rattle.morphology.specs.Falls.{fallsOff}
-use Rattle.morphology.specs.Image.{clip, inside, onFrame}
+use Rattle.morphology.specs.Image.{clip, onFrame}
 use Rattle.morphology.specs.Labels.{places}
 use Rattle.morphology.specs.Lists.{everyOf, someOf}
 use Rattle.morphology.specs.Morphology.{dilate, erode}
 use Rattle.morphology.specs.Point.{Point, _⊞_, origin}
 use Rattle.morphology.proofs.BandLaws.{InRows}
 use Rattle.morphology.proofs.ExtentLaws.{box-exact, extent-le}
-use Rattle.morphology.proofs.FrameLaws.{OnFrame}
+use Rattle.morphology.proofs.FrameLaws.{OnFrame, on-in}
 use Rattle.morphology.proofs.ImageLaws.{clip-is}
 use Rattle.morphology.proofs.LabelLaws.{on-places}
 use Rattle.morphology.proofs.MorphologyLaws.{_⊆_, dilate-out, dilate-sub, eroded-suc, eroded-zero}
 use Rattle.morphology.proofs.PlaneLaws.{Empty}
 use Rattle.morphology.proofs.RefusalLaws.{false-of}
-use Rattle.morphology.proofs.TestLaws.{and-in, and-l, and-r, any-in, any-out, decide}
+use Rattle.morphology.proofs.TestLaws.{and-in, and-l, and-r, any-in, any-out, decide, some-not}
 
 module _ (W H : ℕ) (B : List Point) (X : Point → Bool) where
   -- a point that falls off, and the offset that takes it there
@@ -56,25 +56,13 @@ module _ (W H : ℕ) (B : List Point) (X : Point → Bool) where
         by x b t m (inr o) = absurd (subst T e (falls-at x b t m o))
 
     pub falls-on : fallsOff W H B X ≡ false → OnFrame W H (dilate B X)
-    falls-on e = record {
-      across = λ p t. and-l (inside W (p .x)) (inside H (p .y)) (falls-not e p t);
-      down = λ p t. and-r (inside W (p .x)) (inside H (p .y)) (falls-not e p t);
-    }
+    falls-on e = on-in W H (dilate B X) (falls-not e)
 
     -- and is not clipped
     pub falls-clip : fallsOff W H B X ≡ false → clip W H (dilate B X) ≡ dilate B X
     falls-clip e = clip-is W H (dilate B X) (falls-on e)
 
 -- ---- by the box
-
--- some member fails where not every one passes
-some-not : {A : Type 0} (p : A → Bool) (l : List A) → someOf (λ a. not (p a)) l ≡ not (everyOf p l)
-some-not p [] = refl
-some-not p (a ∷ l) = ap (λ (t : Bool). not (p a) || t) (some-not p l) ∙ not-and (p a) (everyOf p l)
-  where
-    not-and : (a b : Bool) → (not a || not b) ≡ not (a && b)
-    not-and true b = refl
-    not-and false b = refl
 
 -- the box of B itself, which is 1B
 pub box-one : (W H : ℕ) (B : List Point) → List·Memᴰ origin B → (p : Point) → everyOf (λ b. onFrame W H (p ⊞ b)) B ≡ boxed W H B 1 p

@@ -13,10 +13,10 @@ use lib.IntN.{negsuc, pos, ℤ}
 use lib.ListN.{List·getD-append, getD, length}
 use lib.Pow.{areBytes, field, high, pow-add, pow-pos, shr-lt, split}
 use lib.Seq.{ext-getD}
-use Rattle.morphology.specs.Image.{bitOf, clip, fromBits, imageSet, inside, isClean, pack, pixel, planeBytes, stride}
+use Rattle.morphology.specs.Image.{bitOf, clip, fromBits, imageSet, inside, onFrame, isClean, pack, pixel, planeBytes, stride}
 use Rattle.morphology.specs.Lists.{everyOf, tabulate, upTo}
 use Rattle.morphology.specs.Point.{Point, at}
-use Rattle.morphology.proofs.FrameLaws.{OnFrame, far}
+use Rattle.morphology.proofs.FrameLaws.{OnFrame, far, on-in, on-out}
 use Rattle.morphology.proofs.TestLaws.{T-ext, all-in, all-out, and-in, and-l, and-r}
 
 -- ---- rows
@@ -294,12 +294,8 @@ clean-agree W H a b f t =
 pub clip-is : (W H : ℕ) (X : Point → Bool) → OnFrame W H X → clip W H X ≡ X
 unfolding clip
 clip-is W H X on =
-    fun-ext (λ z. T-ext (λ t. and-r (inside W (z .x) && inside H (z .y)) (X z) t)
-    (λ t. and-in (inside W (z .x) && inside H (z .y)) (X z) (and-in (inside W (z .x)) (inside H (z .y)) (on .across z t) (on .down z t)) t))
+    fun-ext (λ z. T-ext (and-r (onFrame W H z) (X z)) (λ t. and-in (onFrame W H z) (X z) (on-out W H X on z t) t))
 
 pub clip-on : (W H : ℕ) (X : Point → Bool) → OnFrame W H (clip W H X)
 unfolding clip
-clip-on W H X = record {
-  across = λ z t. and-l (inside W (z .x)) (inside H (z .y)) (and-l (inside W (z .x) && inside H (z .y)) (X z) t);
-  down = λ z t. and-r (inside W (z .x)) (inside H (z .y)) (and-l (inside W (z .x) && inside H (z .y)) (X z) t);
-}
+clip-on W H X = on-in W H (clip W H X) (λ z t. and-l (onFrame W H z) (X z) t)

@@ -7,25 +7,26 @@ use Prim.Native.Nat.{_*_, _+_, _-_, _<_, _≤_, suc, zero, zero-le, ℕ}
 use native.Mathlib.Decide.{decLt}
 use native.Mathlib.Nat.{le-refl, suc-ne-zero}
 use native.Mathlib.Omega.{arith}
-use lib.Dec.{T, eqb, eqb-refl, eqb→eq, leb, leb→le, le→leb, ltb, ltb→lt}
+use lib.Dec.{T, T-not, eqb, eqb-refl, eqb→eq, leb, leb→le, le→leb, ltb, ltb→lt}
 use lib.IntN.{negsuc, pos, ℤ}
 use lib.ListN.{getD}
-use Rattle.morphology.specs.Image.{inside, onFrame}
+use Rattle.morphology.specs.Image.{onFrame}
 use Rattle.morphology.specs.Labels.{labelAt, places}
-use Rattle.morphology.specs.Lists.{everyOf, someOf}
+use Rattle.morphology.specs.Lists.{someOf}
 use Rattle.morphology.specs.Morphology.{dilate, times}
 use Rattle.morphology.specs.Partial.{partialStamp, partialUnion}
 use Rattle.morphology.specs.Point.{Point, _⊞_, at, origin, samePoint}
 use Rattle.morphology.specs.Refusals.{isWild, leaves}
 use Rattle.morphology.specs.Skeleton.{reconstruct, reconstruction}
 use Rattle.morphology.proofs.ElementLaws.{Element}
-use Rattle.morphology.proofs.FrameLaws.{OnFrame}
+use Rattle.morphology.proofs.FrameLaws.{OnFrame, on-in, on-out}
 use Rattle.morphology.proofs.LabelLaws.{in-places}
 use Rattle.morphology.proofs.MorphologyLaws.{_⊆_, dilate-in, dilate-sub, dilate-sum, dilate-zero, set-ext, sum-in, sum-out, times-add, times-suc}
 use Rattle.morphology.proofs.PlaneLaws.{Empty}
 use Rattle.morphology.proofs.PointLaws.{assoc, same-eq, same-refl, unit}
+use Rattle.morphology.proofs.RefusalLaws.{false-of}
 use Rattle.morphology.proofs.SubsetLaws.{origin-times, reconstruct-in, reconstruct-out}
-use Rattle.morphology.proofs.TestLaws.{all-out, and-in, and-l, and-r, any-in, any-out, decide, or-l, or-out, or-r}
+use Rattle.morphology.proofs.TestLaws.{and-in, and-l, and-r, any-in, any-out, decide, or-l, or-out, or-r, some-not}
 
 -- ---- n-fold elements
 
@@ -185,40 +186,62 @@ module _ (W H : ℕ) (B : List Point) (el : Element B) (m : List ℕ) where
   unfolding reconstruction
   union-dilated k = partial-dilated W H B (labelAt W H m) (label-on W H m) (el .centred) k
 
-  module _ (k : ℕ) (tame : isWild W H B k m ≡ false) where
-    -- a kept point dilated to its size stays on the frame
-    pub kept-on : (p : Point) (j : ℕ) {c : Point} → labelAt W H m p ≡ suc j → k ≤ j → List·Memᴰ c (times B j) → T (onFrame W H (p ⊞ c))
-    unfolding isWild leaves
-    kept-on p j {c} q h l = all-out f (go (decide (everyOf f (times B j)))) l
+  -- ---- maps with a point that leaves the frame
+
+  -- a map is wild where a point that it reconstructs at cut 0 lies off the frame
+  pub wild-in : (z : Point) → T (reconstruction W H B 0 m z) → T (not (onFrame W H z)) → T (isWild W H B m)
+  unfolding reconstruction isWild leaves
+  wild-in z t o =
+      let r = reconstruct-out (places W H) B 0 (labelAt W H m) z t in
+      let p = r .0 in
+      let off : Point → Bool = λ b. not (onFrame W H (p ⊞ b)) in
+      any-in (λ q. leaves W H B q (labelAt W H m q)) (label-on W H m p (r .1) (r .3))
+      (subst (λ (v : ℕ). T (leaves W H B p v)) (sym (r .3))
+      (subst T (some-not (λ b. onFrame W H (p ⊞ b)) (times B (r .1))) (any-in off (r .5) (subst (λ (y : Point). T (not (onFrame W H y))) (r .6) o))))
+
+  -- and only there
+  pub wild-out : T (isWild W H B m) → (z : Point) × T (reconstruction W H B 0 m z) × T (not (onFrame W H z))
+  unfolding reconstruction isWild leaves
+  wild-out t =
+      let r = any-out (λ q. leaves W H B q (labelAt W H m q)) (places W H) t in
+      by (r .0) (labelAt W H m (r .0)) refl (r .2)
+    where
+      by : (p : Point) (v : ℕ) → labelAt W H m p ≡ v → T (leaves W H B p v) → (z : Point) × T (reconstruction W H B 0 m z) × T (not (onFrame W H z))
+      by p zero q t = absurd t
+      by p (suc n) q t =
+          let f : Point → Bool = λ b. onFrame W H (p ⊞ b) in
+          let s = any-out (λ b. not (f b)) (times B n) (subst T (sym (some-not f (times B n))) t) in
+          (p ⊞ s .0, reconstruct-in (places W H) B 0 n (labelAt W H m) p (s .0) (label-on W H m p n q) q zero-le (s .1), s .2)
+
+  pub tame-on : OnFrame W H (reconstruction W H B 0 m) → isWild W H B m ≡ false
+  tame-on on = false-of (isWild W H B m) (λ t.
+      let r = wild-out t in
+      T-not (onFrame W H (r .0)) (r .2) (on-out W H (reconstruction W H B 0 m) on (r .0) (r .1)))
+
+  module _ (tame : isWild W H B m ≡ false) where
+    -- a point dilated to its size stays on the frame
+    pub point-on : (p : Point) (j : ℕ) {c : Point} → labelAt W H m p ≡ suc j → List·Memᴰ c (times B j) → T (onFrame W H (p ⊞ c))
+    unfolding reconstruction
+    point-on p j {c} q l = by (decide (onFrame W H (p ⊞ c)))
       where
-        f : Point → Bool
-        f b = onFrame W H (p ⊞ b)
+        by : T (onFrame W H (p ⊞ c)) ⊎ T (not (onFrame W H (p ⊞ c))) → T (onFrame W H (p ⊞ c))
+        by (inl t) = t
+        by (inr t) =
+            absurd (subst T tame (wild-in (p ⊞ c) (reconstruct-in (places W H) B 0 j (labelAt W H m) p c (label-on W H m p j q) q zero-le l) t))
 
-        go : T (everyOf f (times B j)) ⊎ T (not (everyOf f (times B j))) → T (everyOf f (times B j))
-        go (inl t) = t
-        go (inr t) =
-            absurd (subst T tame
-            (any-in (λ q. leaves W H B k q (labelAt W H m q)) (label-on W H m p j q)
-            (subst (λ (v : ℕ). T (leaves W H B k p v)) (sym q) (and-in (leb k j) (not (everyOf f (times B j))) (le→leb k j h) t))))
+    -- no union leaves the frame, nor one of its n dilations: nothing is ever clipped
+    pub union-on : (n i : ℕ) → i ≤ n → OnFrame W H (dilate (times B i) (unionAt n))
+    union-on n i l = on-in W H (dilate (times B i) (unionAt n)) (dilate-sub (times B i) (unionAt n) (onFrame W H) (λ x b u g.
+        let r = partial-out W H B (labelAt W H m) n x u in
+        let j = r .1 in
+        let o = r .5 in
+        subst (λ (y : Point). T (onFrame W H y)) (sym (assoc (r .0) (r .2) b) ∙ ap (λ (y : Point). y ⊞ b) (sym (r .7)))
+        (point-on (r .0) j (r .4)
+        (times-mono B (el .centred) ((j - n) + i) j (omega arith) (times-add B (j - n) i .to (sum-in (times B (j - n)) (times B i) (r .6) g))))))
 
-    -- no union from the cut on leaves the frame, nor one of its n dilations: nothing is ever clipped
-    pub union-on : (n i : ℕ) → k ≤ n → i ≤ n → OnFrame W H (dilate (times B i) (unionAt n))
-    union-on n i h l = record {
-      across = λ z t. and-l (inside W (z .x)) (inside H (z .y)) (frame z t);
-      down = λ z t. and-r (inside W (z .x)) (inside H (z .y)) (frame z t);
-    }
-      where
-        frame : dilate (times B i) (unionAt n) ⊆ onFrame W H
-        frame = dilate-sub (times B i) (unionAt n) (onFrame W H) (λ x b u g.
-            let r = partial-out W H B (labelAt W H m) n x u in
-            let j = r .1 in
-            let o = r .5 in
-            subst (λ (y : Point). T (onFrame W H y)) (sym (assoc (r .0) (r .2) b) ∙ ap (λ (y : Point). y ⊞ b) (sym (r .7)))
-            (kept-on (r .0) j (r .4) (omega arith)
-            (times-mono B (el .centred) ((j - n) + i) j (omega arith) (times-add B (j - n) i .to (sum-in (times B (j - n)) (times B i) (r .6) g)))))
+    pub union-at-on : (n : ℕ) → OnFrame W H (unionAt n)
+    union-at-on n = subst (OnFrame W H) (dilate-zero B (unionAt n)) (union-on n 0 zero-le)
 
-    pub union-at-on : (n : ℕ) → k ≤ n → OnFrame W H (unionAt n)
-    union-at-on n h = subst (OnFrame W H) (dilate-zero B (unionAt n)) (union-on n 0 h zero-le)
-
-    pub reconstruction-on : OnFrame W H (reconstruction W H B k m)
-    reconstruction-on = subst (OnFrame W H) (union-dilated k) (union-on k k (le-refl k) (le-refl k))
+    -- and at no cut does a reconstruction
+    pub reconstruction-on : (k : ℕ) → OnFrame W H (reconstruction W H B k m)
+    reconstruction-on k = subst (OnFrame W H) (union-dilated k) (union-on k k (le-refl k))

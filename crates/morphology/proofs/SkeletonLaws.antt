@@ -1,5 +1,5 @@
 -- The decomposition of a set on the frame, and its reconstruction.
-use mathlib.Core.Bool.{Bool, _||_, cond, false, not, true}
+use mathlib.Core.Bool.{Bool, _||_, cond, false, true}
 use mathlib.Core.List.{List, List·Memᴰ, List·Memᴰ·head, List·Memᴰ·tail, [], _∷_}
 use mathlib.Core.Logic.{_↔_}
 use mathlib.Core.Path.{_∙_, _≡_, ap, ap₂, fun-ext, refl, subst, sym}
@@ -7,22 +7,21 @@ use Prim.Native.Nat.{_*_, _+_, _<_, _≤_, max, suc, zero, zero-le, ℕ}
 use native.Mathlib.Decide.{decLt}
 use native.Mathlib.Nat.{le-refl}
 use native.Mathlib.Omega.{arith}
-use lib.Dec.{T, T-not, leb}
+use lib.Dec.{T}
 use lib.IntN.{pos}
 use lib.ListN.{List·getD-eq-default, getD}
-use Rattle.morphology.specs.Image.{inside, onFrame}
 use Rattle.morphology.specs.Labels.{labelAt, place, places, raster}
-use Rattle.morphology.specs.Lists.{everyOf, someOf}
+use Rattle.morphology.specs.Lists.{someOf}
 use Rattle.morphology.specs.Morphology.{erode, opening, times}
-use Rattle.morphology.specs.Point.{Point, _⊞_, at}
-use Rattle.morphology.specs.Refusals.{isWild, leaves}
+use Rattle.morphology.specs.Point.{Point, at}
+use Rattle.morphology.specs.Refusals.{isWild}
 use Rattle.morphology.specs.Skeleton.{pick, reconstruct, reconstruction, skeletonFunction, skeletonLabels, skeletonSubset, stamp}
 use Rattle.morphology.proofs.ElementLaws.{Element}
 use Rattle.morphology.proofs.FrameLaws.{OnFrame, erode-empty}
 use Rattle.morphology.proofs.LabelLaws.{getD-place, getD-raster, labelAt-raster, length-raster, on-places}
-use Rattle.morphology.proofs.MorphologyLaws.{erode-out, eroded-zero, open-sub, ⊆-of-eq}
+use Rattle.morphology.proofs.MorphologyLaws.{eroded-zero, open-sub, ⊆-of-eq}
+use Rattle.morphology.proofs.ReconstructLaws.{tame-on}
 use Rattle.morphology.proofs.SubsetLaws.{eroded-down, label-of, label-open, of-label, reconstruct-open, subset-in}
-use Rattle.morphology.proofs.TestLaws.{all-in, and-in, and-r, any-out}
 
 pub any-agree : {A : Type 0} (p q : A → Bool) (l : List A) → ((a : A) → List·Memᴰ a l → p a ≡ q a) → someOf p l ≡ someOf q l
 any-agree p q [] f = refl
@@ -115,20 +114,5 @@ module _ (W H : ℕ) (B : List Point) (el : Element B) (X : Point → Bool) (on 
       ∙ reconstruct-open B (el .centred) (places W H) X N (on-places W H X on) eroded-empty k
 
   -- no point of it leaves the frame
-  pub skeleton-tame : (k : ℕ) → T (isWild W H B k (skeletonLabels W H B X)) → ⊥
-  unfolding isWild skeletonLabels leaves
-  skeleton-tame k t =
-      let r = any-out (λ p. leaves W H B k p (labelAt W H (raster W H f) p)) (places W H) t in
-      go (r .0) (f (r .0)) refl (subst (λ (n : ℕ). T (leaves W H B k (r .0) n)) (labelAt-raster W H f (r .1)) (r .2))
-    where
-      f : Point → ℕ
-      f = skeletonFunction B X (max W H)
-
-      go : (p : Point) (n : ℕ) → f p ≡ n → T (leaves W H B k p n) → ⊥
-      go p zero q t = t
-      go p (suc n) q t =
-          let s = subset-in B (el .centred) X n p (of-label B (el .centred) X (max W H) n p q .0) in
-          T-not (everyOf (λ b. onFrame W H (p ⊞ b)) (times B n)) (and-r (leb k n) (not (everyOf (λ b. onFrame W H (p ⊞ b)) (times B n))) t)
-          (all-in (λ b. onFrame W H (p ⊞ b)) (times B n) (λ b m.
-          let u = erode-out (times B n) X p s m in
-          and-in (inside W ((p ⊞ b) .x)) (inside H ((p ⊞ b) .y)) (on .across (p ⊞ b) u) (on .down (p ⊞ b) u)))
+  pub skeleton-tame : isWild W H B (skeletonLabels W H B X) ≡ false
+  skeleton-tame = tame-on W H B el (skeletonLabels W H B X) (subst (OnFrame W H) (sym (reconstruction-open 0)) (open-on W H (times B 0) X on))

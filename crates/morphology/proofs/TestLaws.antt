@@ -2,7 +2,7 @@
 use mathlib.Core.Bool.{Bool, _&&_, _||_, false, not, true}
 use mathlib.Core.List.{List, List·Memᴰ, List·Memᴰ·head, List·Memᴰ·not-nil, List·Memᴰ·tail, [], _∷_, map}
 use mathlib.Core.Logic.{_⊎_, inl, inr}
-use mathlib.Core.Path.{_≡_, ap, refl, subst, sym}
+use mathlib.Core.Path.{_∙_, _≡_, ap, refl, subst, sym}
 use Prim.Native.Nat.{_<_, suc, zero, ℕ}
 use native.Mathlib.Nat.{le-of-suc-le-suc, not-suc-le-zero}
 use lib.Arith.{lt-of-le-ne}
@@ -40,6 +40,10 @@ pub or-out : (a b : Bool) → T (a || b) → T a ⊎ T b
 or-out true b t = inl tt
 or-out false b t = inr t
 
+pub not-and : (a b : Bool) → (not a || not b) ≡ not (a && b)
+not-and true b = refl
+not-and false b = refl
+
 pub decide : (a : Bool) → T a ⊎ T (not a)
 decide true = inl tt
 decide false = inr tt
@@ -64,6 +68,11 @@ module _ {ℓ} {A : Type ℓ} where
       go : (T (someOf p l) → (a : A) × List·Memᴰ a l × T (p a)) → T (p x) ⊎ T (someOf p l) → (a : A) × List·Memᴰ a (x ∷ l) × T (p a)
       go rest (inl s) = (x, List·Memᴰ·head refl, s)
       go rest (inr s) = let r = rest s in (r .0, List·Memᴰ·tail (r .1), r .2)
+
+-- some member fails where not every one passes
+pub some-not : {A : Type 0} (p : A → Bool) (l : List A) → someOf (λ a. not (p a)) l ≡ not (everyOf p l)
+some-not p [] = refl
+some-not p (a ∷ l) = ap (λ (t : Bool). not (p a) || t) (some-not p l) ∙ not-and (p a) (everyOf p l)
 
 pub mem-map : {A B : Type 0} (f : A → B) {a : A} {l : List A} → List·Memᴰ a l → List·Memᴰ (f a) (map f l)
 mem-map f (List·Memᴰ·head e) = List·Memᴰ·head (ap f e)

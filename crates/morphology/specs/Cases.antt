@@ -1,4 +1,4 @@
--- The settled cases of 01, A to E and G to L, J and K as 02 moves them, and one more: a call, and what it answers and leaves.
+-- The settled cases of 01, A to E and G to L, J to L as 02 moves them, and a few more: a call, and what it answers and leaves.
 -- Definitions only; proofs/Cases.antt has the claim.
 -- Rows of pixels and of labels are written as 01 writes them, a decimal digit each. Buffers to be written hold 7 before the call,
 -- work holds 9 and one byte more than it needs.
@@ -153,10 +153,11 @@ cases =
     -- K; the same block in the middle of a blank sheet
     ∷ thins 3 3 (111 ∷ 111 ∷ 111 ∷ []) 1 0 9 (111 ∷ 111 ∷ 111 ∷ [])
     ∷ thins 5 5 middle 3 4 5 (00000 ∷ 01010 ∷ 01100 ∷ 01000 ∷ 00000 ∷ [])
-    -- L: cuts 0, 1, 2
+    -- L: cuts 0, 1, 2, and one that row 7 would refuse
     ∷ rebuiltNot 1 1 SQUARE (2 ∷ []) 0 5
     ∷ rebuiltNot 1 1 SQUARE (2 ∷ []) 1 5
-    ∷ rebuilt 1 1 SQUARE (2 ∷ []) 2 0 (0 ∷ [])
+    ∷ rebuiltNot 1 1 SQUARE (2 ∷ []) 2 5
+    ∷ rebuiltNot 1 1 SQUARE (2 ∷ []) 256 5
     -- not of 01's table: the smallest size goes first
     ∷ shortened 3 1 RIGHT (221 ∷ []) 2 (220 ∷ [])
     ∷ []

@@ -65,7 +65,7 @@ decomposed W H e image labels work =
 
 abbrev pub reconstructRows : ℕ → ℕ → ℕ → ℕ → List ℕ → List ℕ → List ℕ → List Row
 reconstructRows W H e k labels image work =
-    row1 W H ∷ row2 e ∷ row3 (notPlaces W H labels ∷ notPlane W H image ∷ shortWork W H work ∷ []) ∷ row5 W H (offsets e) k labels ∷ row7 k ∷ []
+    row1 W H ∷ row2 e ∷ row3 (notPlaces W H labels ∷ notPlane W H image ∷ shortWork W H work ∷ []) ∷ row5 W H (offsets e) labels ∷ row7 k ∷ []
 
 unfoldable pub reconstructed : ℕ → ℕ → ℕ → ℕ → List ℕ → List ℕ → List ℕ → Outcome
 reconstructed W H e k labels image work =
@@ -75,7 +75,7 @@ reconstructed W H e k labels image work =
 
 abbrev pub minimiseRows : ℕ → ℕ → ℕ → List ℕ → List ℕ → List ℕ → List Row
 minimiseRows W H e labels work counters =
-    row1 W H ∷ row2 e ∷ row3 (notPlaces W H labels ∷ shortWork W H work ∷ notPlaces W H counters ∷ []) ∷ row5 W H (offsets e) 0 labels ∷ []
+    row1 W H ∷ row2 e ∷ row3 (notPlaces W H labels ∷ shortWork W H work ∷ notPlaces W H counters ∷ []) ∷ row5 W H (offsets e) labels ∷ []
 
 -- the labels m written, their points answered; work and counters cleared
 abbrev pub shortens : ℕ → ℕ → List ℕ → List ℕ → Outcome

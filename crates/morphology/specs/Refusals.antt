@@ -32,14 +32,14 @@ shortPlanes k W H w = ltb (length w) (k * planeBytes W H)
 abbrev pub shortWork : ℕ → ℕ → List ℕ → Bool
 shortWork W H w = shortPlanes 3 W H w
 
--- a point p with this label, kept from cut k on, leaves the frame when it is dilated to its size
-unfoldable pub leaves : ℕ → ℕ → List Point → ℕ → Point → ℕ → Bool
-leaves W H B k p zero = false
-leaves W H B k p (suc n) = leb k n && not (everyOf (λ b. onFrame W H (p ⊞ b)) (times B n))
+-- a point p with this label leaves the frame when it is dilated to its size
+unfoldable pub leaves : ℕ → ℕ → List Point → Point → ℕ → Bool
+leaves W H B p zero = false
+leaves W H B p (suc n) = not (everyOf (λ b. onFrame W H (p ⊞ b)) (times B n))
 
--- a point of the map m does
-unfoldable pub isWild : ℕ → ℕ → List Point → ℕ → List ℕ → Bool
-isWild W H B k m = someOf (λ p. leaves W H B k p (labelAt W H m p)) (places W H)
+-- a point of the map m does, whatever its size
+unfoldable pub isWild : ℕ → ℕ → List Point → List ℕ → Bool
+isWild W H B m = someOf (λ p. leaves W H B p (labelAt W H m p)) (places W H)
 
 -- ---- the rows: a number, and given exactly when
 
@@ -62,9 +62,9 @@ row3 wrong = (3, someOf (λ b. b) wrong)
 abbrev pub row4 : ℕ → ℕ → List ℕ → Row
 row4 W H s = (4, not (isClean W H s))
 
--- in labels that are reconstructed or minimised, a kept point dilated to its size leaves the frame
-abbrev pub row5 : ℕ → ℕ → List Point → ℕ → List ℕ → Row
-row5 W H B k m = (5, isWild W H B k m)
+-- (02) in labels that are reconstructed, at whatever cut, or minimised, a point dilated to its size leaves the frame
+abbrev pub row5 : ℕ → ℕ → List Point → List ℕ → Row
+row5 W H B m = (5, isWild W H B m)
 
 -- a mask has a bit above 8, lacks the centre in the foreground, or its two numbers overlap
 abbrev pub row6 : ℕ × ℕ → Row

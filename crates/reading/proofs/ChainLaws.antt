@@ -1,12 +1,12 @@
 -- Refusal 11 without the map: with A(n) the cover at size n, the map is the skeleton of A(0) exactly when A(n) eroded by B is A(n + 1) for every size n.
 use mathlib.Core.Bool.{Bool, _&&_, _||_, false, not}
-use mathlib.Core.List.{List, List·Memᴰ, [], _∷_}
+use mathlib.Core.List.{List, [], _∷_}
 use mathlib.Core.Logic.{_↔_, _⊎_, inl, inr}
 use mathlib.Core.Path.{_∙_, _≡_, ap, ap₂, fun-ext, refl, subst, sym}
-use Prim.Native.Nat.{_*_, _+_, _≤_, suc, zero, zero-le, ℕ}
+use Prim.Native.Nat.{_*_, _+_, _≤_, suc, zero, ℕ}
 use native.Mathlib.Nat.{add-suc, add-zero, suc-add, zero-add}
 use native.Mathlib.Omega.{arith}
-use lib.Dec.{T, T-not, eqb, eqb-refl, eqb→eq, leb, not-T}
+use lib.Dec.{T, T-not, eqb, eqb-refl, eqb→eq, not-T}
 use lib.ListN.{getD, length}
 use Rattle.coding.specs.Codes.{ofSize}
 use Rattle.coding.specs.Runs.{mask}
@@ -16,24 +16,22 @@ use Rattle.reading.specs.Points.{covered}
 use Rattle.reading.proofs.MapLaws.{Tidy, greatest-le-sizes, raster-labelAt, size-of}
 use Rattle.reading.proofs.OwnFacts.{is-skeleton, length-labels, skeleton-is}
 use Rattle.reading.proofs.PlacedLaws.{unmasked-out}
-use Rattle.morphology.specs.Image.{onFrame}
-use Rattle.morphology.specs.Labels.{labelAt, places, raster}
-use Rattle.morphology.specs.Lists.{everyOf, greatest, someOf}
+use Rattle.morphology.specs.Labels.{labelAt, raster}
+use Rattle.morphology.specs.Lists.{greatest}
 use Rattle.morphology.specs.Morphology.{dilate, erode, times}
 use Rattle.morphology.specs.Partial.{partialUnion}
-use Rattle.morphology.specs.Point.{Point, _⊞_, origin}
-use Rattle.morphology.specs.Refusals.{isWild, leaves}
+use Rattle.morphology.specs.Point.{Point}
+use Rattle.morphology.specs.Refusals.{isWild}
 use Rattle.morphology.specs.Skeleton.{reconstruction, skeletonLabels, skeletonSubset}
 use Rattle.morphology.proofs.DecomposeLaws.{subset-turn}
 use Rattle.morphology.proofs.ElementLaws.{Element}
 use Rattle.morphology.proofs.FrameLaws.{OnFrame}
 use Rattle.morphology.proofs.LabelLaws.{length-raster}
-use Rattle.morphology.proofs.MorphologyLaws.{_⊆_, dilate-in, dilate-out, dilate-sub, dilate-times, dilate-zero, eroded-suc, eroded-zero, set-ext, ⊆-of-eq}
+use Rattle.morphology.proofs.MorphologyLaws.{_⊆_, dilate-out, dilate-zero, eroded-suc, eroded-zero, set-ext, ⊆-of-eq}
 use Rattle.morphology.proofs.PlaneLaws.{Empty, empty-eq, none as nowhere}
-use Rattle.morphology.proofs.ReconstructLaws.{dilated-suc, kept-on, partial-top, reconstruction-on, times-mono, union-dilated, union-turn}
-use Rattle.morphology.proofs.RefusalLaws.{false-of}
+use Rattle.morphology.proofs.ReconstructLaws.{dilated-suc, partial-top, reconstruction-on, union-dilated, union-turn}
 use Rattle.morphology.proofs.SubsetLaws.{eroded-down, subset-in}
-use Rattle.morphology.proofs.TestLaws.{T-ext, all-in, all-out, and-in, and-l, and-r, any-out, or-l, or-out}
+use Rattle.morphology.proofs.TestLaws.{T-ext, and-in, and-l, and-r, or-l, or-out}
 
 -- ---- covers
 
@@ -60,32 +58,6 @@ mask-covered B (S ∷ larger) = refl
 -- a cover is its points and the next cover dilated once
 pub covered-turn : (B : List Point) (S : Point → Bool) (larger : List (Point → Bool)) → covered B (S ∷ larger) ≡ (λ z. S z || dilate B (covered B larger) z)
 covered-turn B S larger = covered-cons B S larger ∙ ap (λ (M : Point → Bool). λ z. S z || M z) (mask-covered B larger)
-
--- z dilated n times lies on the frame
-abbrev pub StaysOn : ℕ → ℕ → List Point → Point → ℕ → Type 0
-StaysOn W H B z n = T (everyOf (λ b. onFrame W H (z ⊞ b)) (times B n))
-
--- where no point leaves the frame when it is dilated to its size, no cover does when it is dilated as often as its size: nothing is clipped.
--- The sets have sizes n, n + 1, ..
-pub covers-on : (W H : ℕ) (B : List Point) → List·Memᴰ origin B → (sets : List (Point → Bool)) (n : ℕ)
-    → ((i : ℕ) (z : Point) → T (getD sets i nowhere z) → StaysOn W H B z (n + i))
-    → (i : ℕ) → i ≤ n → dilate (times B i) (covered B sets) ⊆ onFrame W H
-covers-on W H B ob [] n f i h = dilate-sub (times B i) (covered B []) (onFrame W H) (λ x b t m. absurd (⊆-of-eq (covered-none B) x t))
-covers-on W H B ob (S ∷ sets) n f i h =
-    let up = covers-on W H B ob sets (suc n) (λ j z t. subst (StaysOn W H B z) (add-suc n j ∙ sym (suc-add n j)) (f (suc j) z t)) (suc i) (omega arith) in
-    dilate-sub (times B i) (covered B (S ∷ sets)) (onFrame W H) (λ x b t m.
-    by up x b m (or-out (S x) (dilate B (covered B sets) x) (⊆-of-eq (covered-turn B S sets) x t)))
-  where
-    by : dilate (times B (suc i)) (covered B sets) ⊆ onFrame W H → (x b : Point) → List·Memᴰ b (times B i) → T (S x) ⊎ T (dilate B (covered B sets) x)
-        → T (onFrame W H (x ⊞ b))
-    by up x b m (inl t) =
-        all-out (λ b. onFrame W H (x ⊞ b)) (subst (StaysOn W H B x) (add-zero n) (f 0 x t)) (times-mono B ob i n h m)
-    by up x b m (inr t) =
-        up (x ⊞ b) (⊆-of-eq (sym (dilate-times B 1 i (covered B sets)) ∙ ap (λ (k : ℕ). dilate (times B k) (covered B sets)) one) (x ⊞ b)
-        (dilate-in (times B i) (dilate (times B 1) (covered B sets)) x b (⊆-of-eq (sym (dilated-one B (covered B sets))) x t) m))
-      where
-        one : 1 + i ≡ suc i
-        one = omega arith
 
 -- ---- maps, and lists of sizes
 
@@ -129,7 +101,7 @@ module _ (W H : ℕ) (B : List Point) (el : Element B) (sets : List (Point → B
   label-small z = omega (arith, labelAt-le W H m z, greatest-le-sizes W H sets)
 
   -- the partial union at size n is the cover of the sets from the n-th on
-  union-covered : (L : List (Point → Bool)) (n : ℕ) → Suffix sets n L → n + length L ≡ length sets → partialUnion W H B n (labelAt W H m) ≡ covered B L
+  pub union-covered : (L : List (Point → Bool)) (n : ℕ) → Suffix sets n L → n + length L ≡ length sets → partialUnion W H B n (labelAt W H m) ≡ covered B L
   unfolding ofSize
   union-covered [] n h e =
       empty-eq (partialUnion W H B n (labelAt W H m)) (partial-top W H B (labelAt W H m) (length sets) n label-small (omega arith)) ∙ sym (covered-none B)
@@ -191,10 +163,10 @@ module _ (W H : ℕ) (B : List Point) (el : Element B) (sets : List (Point → B
 
   -- ---- the law
 
-  module _ (tame : isWild W H B 0 m ≡ false) where
+  module _ (tame : isWild W H B m ≡ false) where
     -- the cover of a map whose points stay on the frame lies on the frame
     cover-on : OnFrame W H (covered B sets)
-    cover-on = subst (OnFrame W H) reconstruction-covered (reconstruction-on W H B el m 0 tame)
+    cover-on = subst (OnFrame W H) reconstruction-covered (reconstruction-on W H B el m tame 0)
 
     -- the covers of a skeleton are a chain
     pub skeleton-chained : T (isSkeleton W H B m) → Chained B sets
@@ -221,23 +193,3 @@ module _ (W H : ℕ) (B : List Point) (el : Element B) (sets : List (Point → B
     -- the map is the skeleton of the image it rebuilds exactly when its covers are a chain
     pub skeleton-iff-chained : T (isSkeleton W H B m) ↔ Chained B sets
     skeleton-iff-chained = (skeleton-chained, chained-skeleton)
-
-  -- no point leaves the frame exactly when, size by size, none does
-  pub tame-sizes : (isWild W H B 0 m ≡ false) ↔ ((n : ℕ) (z : Point) → T (getD sets n nowhere z) → StaysOn W H B z n)
-  unfolding isWild leaves ofSize
-  tame-sizes = (
-    (λ t n z u.
-        let e = eqb→eq (labelAt W H m z) (suc n) (⊆-of-eq (sym (size-of W H B (el .centred) sets tidy n)) z u) in
-        all-in (λ b. onFrame W H (z ⊞ b)) (times B n) (λ b k. kept-on W H B el m 0 t z n e zero-le k)),
-    (λ f. false-of (someOf (λ p. leaves W H B 0 p (labelAt W H m p)) (places W H)) (λ t.
-        let r = any-out (λ p. leaves W H B 0 p (labelAt W H m p)) (places W H) t in
-        by f (r .0) (labelAt W H m (r .0)) refl (r .2))),
-  )
-    where
-      by : ((n : ℕ) (z : Point) → T (getD sets n nowhere z) → StaysOn W H B z n)
-          → (p : Point) (v : ℕ) → labelAt W H m p ≡ v → T (leaves W H B 0 p v) → ⊥
-      by f p zero e t = t
-      by f p (suc n) e t =
-          let a = everyOf (λ b. onFrame W H (p ⊞ b)) (times B n) in
-          let u = subst (λ (k : ℕ). T (eqb k (suc n))) (sym e) (eqb-refl (suc n)) in
-          T-not a (and-r (leb 0 n) (not a) t) (f n p (⊆-of-eq (size-of W H B (el .centred) sets tidy n) p u))

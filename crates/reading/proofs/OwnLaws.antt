@@ -37,7 +37,7 @@ use Rattle.morphology.proofs.FrameLaws.{OnFrame}
 use Rattle.morphology.proofs.MorphologyLaws.{open-zero, ⊆-of-eq}
 use Rattle.morphology.proofs.PlaneLaws.{Empty, empty-eq, none-on}
 use Rattle.morphology.proofs.ReconstructLaws.{reconstruction-on}
-use Rattle.morphology.proofs.RefusalLaws.{T-of-not, clear-out, false-of, first-clear, first-hit, not-T-false, or-in-false, or-out-false, side-le}
+use Rattle.morphology.proofs.RefusalLaws.{T-of-not, clear-out, first-clear, first-hit, not-T-false, or-in-false, or-out-false, side-le}
 use Rattle.morphology.proofs.SkeletonLaws.{label-le, reconstruction-open, skeleton-tame}
 use Rattle.morphology.proofs.TestLaws.{all-out, and-in, and-l, and-r}
 
@@ -190,7 +190,7 @@ module _ (W H : ℕ) (B : List Point) (sides : T (isSide W && isSide H)) (el : E
   record Unrefused (n : ℕ) (r : Reading) : Type 0 where
     small : leb maxSide n ≡ false
     held : lacks (r .0) n ≡ false
-    tame : isWild W H B 0 (r .0) ≡ false
+    tame : isWild W H B (r .0) ≡ false
     padded : T (isPadding (r .1))
     skeletal : T (isSkeleton W H B (r .0))
 
@@ -198,8 +198,8 @@ module _ (W H : ℕ) (B : List Point) (sides : T (isSide W && isSide H)) (el : E
   passed : (n : ℕ) (r : Reading) → firstRefusal (mapRows W H B n (some r)) ≡ 0 → Unrefused n r
   passed n r e =
       let rows = clear-out (mapRows W H B n (some r)) tt e in
-      let a = or-out-false (leb maxSide n) (lacks (r .0) n || isWild W H B 0 (r .0)) (rows .0) in
-      let b = or-out-false (lacks (r .0) n) (isWild W H B 0 (r .0)) (a .1) in
+      let a = or-out-false (leb maxSide n) (lacks (r .0) n || isWild W H B (r .0)) (rows .0) in
+      let b = or-out-false (lacks (r .0) n) (isWild W H B (r .0)) (a .1) in
       record {
         small = a .0;
         held = b .0;
@@ -210,9 +210,9 @@ module _ (W H : ℕ) (B : List Point) (sides : T (isSide W && isSide H)) (el : E
 
   passes : (n : ℕ) (r : Reading) → Unrefused n r → firstRefusal (mapRows W H B n (some r)) ≡ 0
   passes n r p =
-      let shaped = or-in-false (lacks (r .0) n) (isWild W H B 0 (r .0)) (p .held) (p .tame) in
+      let shaped = or-in-false (lacks (r .0) n) (isWild W H B (r .0)) (p .held) (p .tame) in
       first-clear (mapRows W H B n (some r)) (
-        or-in-false (leb maxSide n) (lacks (r .0) n || isWild W H B 0 (r .0)) (p .small) shaped,
+        or-in-false (leb maxSide n) (lacks (r .0) n || isWild W H B (r .0)) (p .small) shaped,
         (not-T-false (isPadding (r .1)) (p .padded), (not-T-false (isSkeleton W H B (r .0)) (p .skeletal), tt)),
       )
 
@@ -234,7 +234,7 @@ module _ (W H : ℕ) (B : List Point) (sides : T (isSide W && isSide H)) (el : E
   accepted-read n bytes none X t q e i = absurd (suc-ne-zero 8 (sym (first-hit 9 true [] refl) ∙ e))
   accepted-read n bytes (some r) X t q e i =
       let p = passed n r e in (
-        subst (OnFrame W H) i (reconstruction-on W H B el (r .0) 0 (p .tame)),
+        subst (OnFrame W H) i (reconstruction-on W H B el (r .0) (p .tame) 0),
         ap (codeOf W H B) (sym i) ∙ own-map n bytes r t q p,
       )
 
@@ -270,7 +270,7 @@ module _ (W H : ℕ) (B : List Point) (sides : T (isSide W && isSide H)) (el : E
         passes = ap (λ (o : Option Reading). firstRefusal (mapRows W H B n o)) (r .1) ∙ passes n (m, r .0) (record {
           small = lt-leb maxSide n small;
           held = has-largest n m e;
-          tame = false-of (isWild W H B 0 m) (skeleton-tame W H B el X on 0);
+          tame = skeleton-tame W H B el X on;
           padded = r .2;
           skeletal = is-skeleton W H B m (ap (skeletonLabels W H B) (sym (rebuilt X on)));
         });

@@ -22,14 +22,13 @@ use Rattle.reading.proofs.ChainLaws.{
   Suffix,
   covered-none,
   covered-turn,
-  covers-on,
   dilated-one,
   mask-covered,
   reconstruction-covered,
   skeleton-iff-chained,
   suffix-head,
   suffix-tail,
-  tame-sizes,
+  union-covered,
 }
 use Rattle.reading.proofs.MapLaws.{Tidy, label-in, label-out, tidy-on}
 use Rattle.reading.proofs.PlacedLaws.{among-out, placed-in, unmasked-out}
@@ -43,14 +42,14 @@ use Rattle.morphology.specs.Point.{Point, _⊞_}
 use Rattle.morphology.specs.Refusals.{firstRefusal, isWild, maxSide}
 use Rattle.morphology.proofs.ElementLaws.{Element}
 use Rattle.morphology.proofs.FallsLaws.{falls-on, falls-some}
-use Rattle.morphology.proofs.FrameLaws.{OnFrame}
+use Rattle.morphology.proofs.FrameLaws.{OnFrame, on-out}
 use Rattle.morphology.proofs.ImageLaws.{mem-row, row-mem}
 use Rattle.morphology.proofs.LabelLaws.{of-places}
-use Rattle.morphology.proofs.MorphologyLaws.{_⊆_, dilate-in, dilate-mono, dilate-out, dilate-zero, ⊆-of-eq}
+use Rattle.morphology.proofs.MorphologyLaws.{_⊆_, dilate-in, dilate-out, ⊆-of-eq}
 use Rattle.morphology.proofs.PlaneLaws.{Empty, none as nowhere, none-on}
-use Rattle.morphology.proofs.ReconstructLaws.{dilated-suc}
+use Rattle.morphology.proofs.ReconstructLaws.{tame-on, union-on}
 use Rattle.morphology.proofs.RefusalLaws.{false-of, first-hit, first-miss, not-T-false, or-in-false}
-use Rattle.morphology.proofs.TestLaws.{T-ext, all-in, and-in, and-l, and-r, any-in, any-out, decide, or-l, or-out, or-r}
+use Rattle.morphology.proofs.TestLaws.{T-ext, and-in, and-l, and-r, any-in, any-out, decide, or-l, or-out, or-r}
 
 -- ---- what is read
 
@@ -120,17 +119,6 @@ raster-in W H f m =
     let r = row-mem (place W) 0 (W * H) m in
     subst (λ (z : Point). List·Memᴰ (f z) (raster W H f)) (sym (r .2)) (mem-row (λ i. f (place W i)) 0 (W * H) (r .0) (r .1))
 
--- a point of size i dilated i times lies in the cover
-size-covered : (B : List Point) (sets : List (Point → Bool)) (i : ℕ) → dilate (times B i) (getD sets i nowhere) ⊆ covered B sets
-size-covered B [] i z t = absurd (dilate-out (times B i) nowhere z t .2)
-size-covered B (S ∷ sets) zero z t =
-    ⊆-of-eq (sym (covered-turn B S sets)) z (or-l (S z) (dilate B (covered B sets) z) (⊆-of-eq (dilate-zero B S) z t))
-size-covered B (S ∷ sets) (suc i) z t =
-    ⊆-of-eq (sym (covered-turn B S sets)) z
-    (or-r (S z) (dilate B (covered B sets) z)
-    (dilate-mono B (dilate (times B i) (getD sets i nowhere)) (covered B sets) (size-covered B sets i) z
-    (⊆-of-eq (dilated-suc B i (getD sets i nowhere)) z t)))
-
 -- no sizes cover nothing
 covered-nothing : (B : List Point) (sets : List (Point → Bool)) → length sets ≡ 0 → Empty (covered B sets)
 covered-nothing B [] e z t = ⊆-of-eq (covered-none B) z t
@@ -141,14 +129,19 @@ module _ (W H : ℕ) (B : List Point) where
   abbrev thenRead : List (Point → Bool) → ℕ → Option (List Point × List ℕ) → Option (List (Point → Bool) × List ℕ)
   thenRead larger n o = elim o [ none ↦ none | some q ↦ readSizes W H B (among (q .0) ∷ larger) (q .1) n ]
 
+  -- a tidy list of all sizes, n of them before those read
+  abbrev Ending : List (Point → Bool) → ℕ → List (Point → Bool) → Type 0
+  Ending sets n larger = Tidy W H B sets × Suffix sets n larger × (n + length larger ≡ length sets)
+
   -- the sizes read stay in the list that a reading ends with, which is tidy
   pub sizes-kept : (n : ℕ) (larger : List (Point → Bool)) (s : List ℕ) (q : List (Point → Bool) × List ℕ) → Tidy W H B larger
-      → readSizes W H B larger s n ≡ some q → Tidy W H B (q .0) × Suffix (q .0) n larger
+      → readSizes W H B larger s n ≡ some q → Ending (q .0) n larger
   unfolding readSizes
   sizes-kept zero larger s q t e =
       let r = Option·some-injective (larger, s) q e in (
         subst (λ (q : List (Point → Bool) × List ℕ). Tidy W H B (q .0)) r t,
         (λ i. ap₂ (λ (q : List (Point → Bool) × List ℕ) (k : ℕ). getD (q .0) k nowhere) r (sym (zero-add i))),
+        zero-add (length larger) ∙ ap (λ (q : List (Point → Bool) × List ℕ). length (q .0)) r,
       )
   sizes-kept (suc n) larger s q t e = go (readSize l s) refl (λ ps rest. sizes-kept n (among ps ∷ larger) rest q) e
     where
@@ -157,12 +150,12 @@ module _ (W H : ℕ) (B : List Point) where
 
       go : (o : Option (List Point × List ℕ)) → readSize l s ≡ o
           → ((ps : List Point) (rest : List ℕ) → Tidy W H B (among ps ∷ larger) → readSizes W H B (among ps ∷ larger) rest n ≡ some q
-          → Tidy W H B (q .0) × Suffix (q .0) n (among ps ∷ larger))
-          → thenRead larger n o ≡ some q → Tidy W H B (q .0) × Suffix (q .0) (suc n) larger
+          → Ending (q .0) n (among ps ∷ larger))
+          → thenRead larger n o ≡ some q → Ending (q .0) (suc n) larger
       go none p more e = absurd (Option·none-ne-some q e)
       go (some r) p more e =
           let k = more (r .0) (r .1) ((λ z u. size-in l s r p z (among-out z (r .0) u)), t) e in
-          (k .0, suffix-tail (q .0) n (among (r .0)) larger (k .1))
+          (k .0, suffix-tail (q .0) n (among (r .0)) larger (k .1), omega (arith, k .2))
 
   -- ---- before the first size
 
@@ -198,7 +191,7 @@ module _ (W H : ℕ) (B : List Point) where
   sizes-large bytes N h =
       rows-nine N bytes (λ q e.
       let m = raster W H (labelIn 0 (q .0)) in
-      or-l (leb maxSide N) (lacks m N || isWild W H B 0 m) (le→leb maxSide N h))
+      or-l (leb maxSide N) (lacks m N || isWild W H B m) (le→leb maxSide N h))
 
   -- ---- one size more
 
@@ -291,8 +284,8 @@ module _ (W H : ℕ) (B : List Point) where
       let m = raster W H (labelIn 0 (q .0)) in
       let rest = drop at′ (symbolsOf bytes) in
       let k = sizes-kept N (among ps ∷ r .larger) rest q (next-tidy r ps at′ e) (sym (next-reads r (some (ps, rest)) e) ∙ g) in
-      or-r (leb maxSide N) (lacks m N || isWild W H B 0 m)
-      (or-l (lacks m N) (isWild W H B 0 m) (not-T (someOf (λ v. eqb v (suc N)) m) (λ t.
+      or-r (leb maxSide N) (lacks m N || isWild W H B m)
+      (or-l (lacks m N) (isWild W H B m) (not-T (someOf (λ v. eqb v (suc N)) m) (λ t.
       let v = any-out (λ v. eqb v (suc N)) m t in
       let i = row-mem (λ i. labelIn 0 (q .0) (place W i)) 0 (W * H) (v .1) in
       let z = place W (0 + i .0) in
@@ -308,25 +301,25 @@ module _ (W H : ℕ) (B : List Point) where
     sizes-falls bytes {N} {n} {at} {A} r f =
         rows-nine N bytes (λ q g.
         let m = raster W H (labelIn 0 (q .0)) in
-        or-r (leb maxSide N) (lacks m N || isWild W H B 0 m) (or-r (lacks m N) (isWild W H B 0 m) (wild q g (decide (isWild W H B 0 m)))))
+        or-r (leb maxSide N) (lacks m N || isWild W H B m) (or-r (lacks m N) (isWild W H B m) (wild q g (decide (isWild W H B m)))))
       where
         fall : (z b : Point) × T (A z) × List·Memᴰ b B × T (not (onFrame W H (z ⊞ b)))
         fall = falls-some W H B A (subst T (sym f) tt)
 
         wild : (q : List (Point → Bool) × List ℕ) → readSizes W H B [] (symbolsOf bytes) (suc N) ≡ some q
-            → T (isWild W H B 0 (raster W H (labelIn 0 (q .0)))) ⊎ T (not (isWild W H B 0 (raster W H (labelIn 0 (q .0)))))
-            → T (isWild W H B 0 (raster W H (labelIn 0 (q .0))))
+            → T (isWild W H B (raster W H (labelIn 0 (q .0)))) ⊎ T (not (isWild W H B (raster W H (labelIn 0 (q .0)))))
+            → T (isWild W H B (raster W H (labelIn 0 (q .0))))
         wild q g (inl t) = t
         wild q g (inr t) =
-            let w = isWild W H B 0 (raster W H (labelIn 0 (q .0))) in
+            let w = isWild W H B (raster W H (labelIn 0 (q .0))) in
             let k = sizes-kept (suc n) (r .larger) (drop at (symbolsOf bytes)) q (r .tidy) (sym (r .reads) ∙ g) in
-            let stays = tame-sizes W H B el (q .0) (k .0) .0 (false-of w (T-not w t)) in
-            let up = covers-on W H B (el .centred) (r .larger) (suc n) (λ i z u. stays (suc n + i) z (⊆-of-eq (k .1 i) z u)) 1 (omega arith) in
             let z = fall .0 in
             let b = fall .1 in
             let X = covered B (r .larger) in
+            let up = subst (λ (Y : Point → Bool). OnFrame W H (dilate (times B 1) Y)) (union-covered W H B el (q .0) (k .0) (r .larger) (suc n) (k .1) (k .2))
+            (union-on W H B el (raster W H (labelIn 0 (q .0))) (false-of w (T-not w t)) (suc n) 1 (omega arith)) in
             absurd (T-not (onFrame W H (z ⊞ b)) (fall .4)
-            (up (z ⊞ b) (⊆-of-eq (sym (dilated-one B X)) (z ⊞ b) (dilate-in B X z b (⊆-of-eq (sym (r .cover)) z (fall .2)) (fall .3)))))
+            (on-out W H (dilate (times B 1) X) up (z ⊞ b) (⊆-of-eq (sym (dilated-one B X)) (z ⊞ b) (dilate-in B X z b (⊆-of-eq (sym (r .cover)) z (fall .2)) (fall .3)))))
 
     -- ---- all sizes are read
 
@@ -340,13 +333,10 @@ module _ (W H : ℕ) (B : List Point) where
       unfolding readSizes
       done-reads = read-sizes W H B N bytes ∙ ap (mapOf W H) (r .reads)
 
-      -- no point leaves the frame when it is dilated to its size: it stays in the cover
-      done-tame : isWild W H B 0 mapRead ≡ false
+      -- no point leaves the frame when it is dilated to its size: the cover, which the map rebuilds, lies on the frame
+      done-tame : isWild W H B mapRead ≡ false
       done-tame =
-          tame-sizes W H B el (r .larger) (r .tidy) .1 (λ i z t. all-in (λ b. onFrame W H (z ⊞ b)) (times B i) (λ b k.
-          let y = z ⊞ b in
-          let u = ⊆-of-eq (r .cover) y (size-covered B (r .larger) i y (dilate-in (times B i) (getD (r .larger) i nowhere) z b t k)) in
-          and-in (inside W (y .x)) (inside H (y .y)) (r .on .across y u) (r .on .down y u)))
+          tame-on W H B el mapRead (subst (OnFrame W H) (sym (reconstruction-covered W H B el (r .larger) (r .tidy) ∙ r .cover)) (r .on))
 
       -- the largest size has a point
       done-held : lacks mapRead N ≡ false
@@ -373,7 +363,7 @@ module _ (W H : ℕ) (B : List Point) where
       unfolding codeRows codeSet
       sizes-done h =
           let rest = drop at (symbolsOf bytes) in
-          let wild = isWild W H B 0 mapRead in (
+          let wild = isWild W H B mapRead in (
             ap (λ (o : Option Reading). firstRefusal (mapRows W H B N o)) done-reads
                 ∙ first-miss 9 (row9 W H B N mapRead .1) (row10 rest ∷ row11 W H B mapRead ∷ [])
                 (or-in-false (leb maxSide N) (lacks mapRead N || wild) (lt-leb maxSide N h) (or-in-false (lacks mapRead N) wild done-held done-tame))

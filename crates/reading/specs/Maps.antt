@@ -2,7 +2,7 @@
 use mathlib.Core.Bool.{Bool, _&&_, _||_, cond, false, not, true}
 use mathlib.Core.List.{List, [], _∷_, map}
 use mathlib.Core.Option.{Option, none, some}
-use Prim.Native.Nat.{suc, zero, ℕ}
+use Prim.Native.Nat.{suc, ℕ}
 use lib.Dec.{eqb, leb}
 use lib.ListN.{length}
 use Rattle.coding.specs.Symbols.{symbolsOf}
@@ -57,7 +57,7 @@ isSkeleton W H B m = sameLabels m (skeletonLabels W H B (reconstruction W H B 0 
 
 -- the largest size is above the limit, it holds no point, or a point dilated to its size leaves the frame
 abbrev pub row9 : ℕ → ℕ → List Point → ℕ → List ℕ → Row
-row9 W H B n m = (9, leb maxSide n || (lacks m n || isWild W H B 0 m))
+row9 W H B n m = (9, leb maxSide n || (lacks m n || isWild W H B m))
 
 -- padding isn't 0, or bytes follow
 abbrev pub row10 : List ℕ → Row

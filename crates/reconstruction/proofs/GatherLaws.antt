@@ -3,7 +3,6 @@ use mathlib.Core.Bool.{Bool, _&&_, _||_, cond, false, true}
 use mathlib.Core.List.{List, _++_}
 use mathlib.Core.Path.{_∙_, _≡_, ap, ap₂, refl, subst, sym}
 use Prim.Native.Nat.{_*_, _+_, _-_, _<_, _≤_, max, suc, zero-le, ℕ}
-use native.Mathlib.Nat.{le-refl}
 use native.Mathlib.Omega.{arith}
 use lib.Dec.{T, eqb, ltb}
 use lib.IntN.{negsuc, pos, ℤ}
@@ -75,7 +74,7 @@ module _ (W H p : ℕ) (q : p ≡ planeBytes W H) (S : Point → Bool) (on : OnF
 
 -- ---- size by size
 
-module _ (W H p e k : ℕ) (q : p ≡ planeBytes W H) (m : List ℕ) (t : Tame W H e k m) where
+module _ (W H p e k : ℕ) (q : p ≡ planeBytes W H) (m : List ℕ) (t : Tame W H e m) where
   B : List Point
   B = offsets e
 
@@ -84,7 +83,7 @@ module _ (W H p e k : ℕ) (q : p ≡ planeBytes W H) (m : List ℕ) (t : Tame W
   Gathered n w u = First W H p (gathered W H (offsets e) m (max n k)) w u
 
   pub gathered-on : (n : ℕ) → OnFrame W H (gathered W H (offsets e) m (max n k))
-  gathered-on n = union-at-on W H (offsets e) (element e (t .element)) m k (t .stays) (max n k) (omega arith)
+  gathered-on n = union-at-on W H (offsets e) (element e (t .element)) m (t .stays) (max n k)
 
   -- none yet
   pub gathered-start : (n : ℕ) (w : List ℕ) → n ≡ greatest m → take p w ≡ replicate p 0 → Gathered n w w
@@ -110,7 +109,7 @@ module _ (W H p e k : ℕ) (q : p ≡ planeBytes W H) (m : List ℕ) (t : Tame W
       let s : n ≡ suc (n - 1) = omega arith in
       let set : imageSet W H u ≡ U = first-image q (gathered-on n) a ∙ ap (gathered W H (offsets e) m) i in
       let one : dilated W H (offsets e) 1 U ≡ dilate (offsets e) U =
-      dilated-is W H (offsets e) U 1 (λ i h. union-on W H (offsets e) el m k (t .stays) n i (omega arith) (omega arith))
+      dilated-is W H (offsets e) U 1 (λ i h. union-on W H (offsets e) el m (t .stays) n i (omega arith))
       ∙ dilated-suc (offsets e) 0 U ∙ ap (dilate (offsets e)) (dilate-zero (offsets e) U) in
       let joined : ℕ → (Point → Bool) → (Point → Bool) = λ i Y z. eqb (labelAt W H m z) i || Y z in
       let turn : joined n (dilated W H (offsets e) 1 (imageSet W H u)) ≡ gathered W H (offsets e) m (max (n - 1) k) =
@@ -129,18 +128,18 @@ module _ (W H p e k : ℕ) (q : p ≡ planeBytes W H) (m : List ℕ) (t : Tame W
   gathered-dilated w u v a b =
       let el = element e (t .element) in
       let U = gathered W H (offsets e) m k in
-      let on = union-at-on W H (offsets e) el m k (t .stays) k (le-refl k) in
+      let on = union-at-on W H (offsets e) el m (t .stays) k in
       first-next a
       (first-as
       (ap (pack W H)
-      (ap (dilated W H (offsets e) k) (first-image q on a) ∙ dilated-is W H (offsets e) U k (λ i h. union-on W H (offsets e) el m k (t .stays) k i (le-refl k) h) ∙ union-dilated W H (offsets e) el m k))
+      (ap (dilated W H (offsets e) k) (first-image q on a) ∙ dilated-is W H (offsets e) U k (union-on W H (offsets e) el m (t .stays) k) ∙ union-dilated W H (offsets e) el m k))
       b)
 
   pub gathered-cleans : (w u : List ℕ) → First W H p (gathered W H (offsets e) m k) w u → T (isClean W H u)
-  gathered-cleans w u a = first-clean q (union-at-on W H (offsets e) (element e (t .element)) m k (t .stays) k (le-refl k)) a
+  gathered-cleans w u a = first-clean q (union-at-on W H (offsets e) (element e (t .element)) m (t .stays) k) a
 
   pub kept-on : OnFrame W H (reconstruction W H (offsets e) k m)
-  kept-on = reconstruction-on W H (offsets e) (element e (t .element)) m k (t .stays)
+  kept-on = reconstruction-on W H (offsets e) (element e (t .element)) m (t .stays) k
 
 -- ---- an empty first plane
 

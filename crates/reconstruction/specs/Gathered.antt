@@ -34,15 +34,15 @@ pub record GrowStart (W H r p e v : ℕ) (m t work : List ℕ) : Type 0 where
   pub tops : Tops W H v m t
   pub rows : H ≤ length t
 
--- an element and labels of a frame, of which no point from cut k on leaves it
-pub record Tame (W H e k : ℕ) (m : List ℕ) : Type 0 where
+-- an element and labels of a frame, of which no point leaves it
+pub record Tame (W H e : ℕ) (m : List ℕ) : Type 0 where
   pub places : length m ≡ W * H
   pub element : T (isElement e)
-  pub stays : isWild W H (offsets e) k m ≡ false
+  pub stays : isWild W H (offsets e) m ≡ false
 
 -- labels and buffers that the rows 1, 2, 3 and 5 let pass
-pub record Kept (W H e k : ℕ) (m s w : List ℕ) : Type 0 where
+pub record Kept (W H e : ℕ) (m s w : List ℕ) : Type 0 where
   pub frame : Frame W H ((W + 7) / 8)
-  pub labels : Tame W H e k m
+  pub labels : Tame W H e m
   pub image : length s ≡ planeBytes W H
   pub work : 3 * planeBytes W H ≤ length w

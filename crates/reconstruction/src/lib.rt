@@ -40,7 +40,7 @@ fn gather(
     labels: &[u8],
     work: &mut [u8],
 )
-    requires { ⌜ Sheet w h r p × (2 * p ≤ length (now work)) × Tame w h element cut (now labels) × (take p (now work) ≡ replicate p 0) ⌝ }
+    requires { ⌜ Sheet w h r p × (2 * p ≤ length (now work)) × Tame w h element (now labels) × (take p (now work) ≡ replicate p 0) ⌝ }
     ensures { λ _. ⌜ First w h p (gathered w h (offsets element) (now (labels .entry)) cut) (now (work .entry)) (now (work .exit)) ⌝ }
 {
     let mut n = label_read::greatest(labels) as u32;
@@ -65,7 +65,7 @@ pub fn reconstruct_into(
     image: &mut [u8],
     work: &mut [u8],
 ) -> u32
-    requires { ⌜ Kept w h element cut (now labels) (now image) (now work) ⌝ }
+    requires { ⌜ Kept w h element (now labels) (now image) (now work) ⌝ }
     ensures { λ a. ⌜ Wrote w h (reconstruction w h (offsets element) cut (now (labels .entry))) a (now (image .exit)) (now (work .entry)) (now (work .exit)) ⌝ }
 {
     let r = (w + 7) / 8;

@@ -37,9 +37,9 @@ module _ (W H e : ℕ) where
       )
 
   pub kept-ready : (k : ℕ) (labels image work : List ℕ) {r : ℕ} → r ≡ firstRefusal (reconstructRows W H e k labels image work) → r ≡ 0
-      → Kept W H e k labels image work
+      → Kept W H e labels image work
   kept-ready k labels image work q z =
-      let d = shaped W H e (notPlaces W H labels ∷ notPlane W H image ∷ shortWork W H work ∷ []) (row5 W H (offsets e) k labels ∷ row7 k ∷ []) tt q z in
+      let d = shaped W H e (notPlaces W H labels ∷ notPlane W H image ∷ shortWork W H work ∷ []) (row5 W H (offsets e) labels ∷ row7 k ∷ []) tt q z in
       let l = d .lengths in
       record {
         frame = sides-frame (d .sides);

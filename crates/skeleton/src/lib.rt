@@ -151,7 +151,7 @@ fn reconstruct_refusal(
     if shape != 0 {
         return shape;
     }
-    let wild = containment::is_wild(w as usize, h as usize, element, cut, labels);
+    let wild = containment::is_wild(w as usize, h as usize, element, labels);
     let leaves = refusals::row(5, wild);
     let over = refusals::row(7, refusals::above_max(cut));
     refusals::first(leaves, over)

@@ -257,7 +257,7 @@ mod tests {
                     lost += !all as u32;
                 }
                 None => {
-                    let leaves = crate::skeleton::leaves_frame(frame, element, 0, &labels);
+                    let leaves = crate::skeleton::leaves_frame(frame, element, &labels);
                     assert!(leaves, "seed {seed}");
                     refused += 1;
                 }

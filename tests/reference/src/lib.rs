@@ -1,7 +1,8 @@
-//! An independent second program for the rules of document 01, with the edge of T-04, and the
-//! codes of 02, written and read. It works on unpacked sets of points and on distances, not on
-//! packed planes that are eroded and dilated step by step, and it is the judge in comparisons: for
-//! any arguments and any lengths it says the answer and every lent byte afterwards.
+//! An independent second program for the rules of document 01, with the edge of T-04 and row 5 of
+//! T-05, and the codes of 02, written and read. It works on unpacked sets of points and on
+//! distances, not on packed planes that are eroded and dilated step by step, and it is the judge
+//! in comparisons: for any arguments and any lengths it says the answer and every lent byte
+//! afterwards.
 
 pub mod cases;
 mod code;
@@ -155,7 +156,7 @@ pub fn decompose(
     })
 }
 
-/// Partial reconstruction ("rebuilding at a cut").
+/// Partial reconstruction ("rebuilding at a cut"). Row 5 asks every point, whatever the cut.
 pub fn reconstruct(
     w: u32,
     h: u32,
@@ -172,7 +173,7 @@ pub fn reconstruct(
         images: &[image.len()],
         labels: Some(labels.len()),
         work: Some((work.len(), PLANES)),
-        kept: Some((labels, cut)),
+        read_labels: Some(labels),
         cut_or_n: Some(cut),
         ..Arguments::default()
     };
@@ -199,7 +200,7 @@ pub fn minimise(
         labels: Some(labels.len()),
         work: Some((work.len(), PLANES)),
         counters: Some(counters.len()),
-        kept: Some((&*labels, 0)),
+        read_labels: Some(labels),
         ..Arguments::default()
     };
     accept(&arguments).map_or_else(Refused, |frame| {

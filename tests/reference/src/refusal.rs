@@ -1,6 +1,6 @@
-//! The table of refusals of 01. A call names the arguments that it has; the first row that
-//! applies is the answer. Rows 8 to 11 of 02 ask for a stream, and are tested where that is
-//! written or read.
+//! The table of refusals of 01, row 5 as T-05 has it. A call names the arguments that it has; the
+//! first row that applies is the answer. Rows 8 to 11 of 02 ask for a stream, and are tested where
+//! that is written or read.
 
 use crate::element::ORIGIN;
 use crate::frame::Frame;
@@ -22,8 +22,8 @@ pub struct Arguments<'a> {
     pub counters: Option<usize>,
     /// The image that is read.
     pub read: Option<&'a [u8]>,
-    /// The labels that are reconstructed or minimised, and the least size that is kept.
-    pub kept: Option<(&'a [u8], u32)>,
+    /// The labels that are reconstructed or minimised.
+    pub read_labels: Option<&'a [u8]>,
     /// fg and bg of a mask.
     pub mask: Option<(u32, u32)>,
     /// A cut, or the n of an erosion or opening.
@@ -87,10 +87,10 @@ fn bad_padding(a: &Arguments) -> bool {
         .is_some_and(|image| frame.pack(&frame.unpack(image)) != image)
 }
 
-/// Row 5: a kept point dilated to its size leaves the frame.
+/// Row 5: a point of the labels, of any size and at any cut, dilated to its size leaves the frame.
 fn bad_labels(a: &Arguments) -> bool {
-    match (a.element, a.kept) {
-        (Some(element), Some((labels, cut))) => leaves_frame(a.frame(), element, cut, labels),
+    match (a.element, a.read_labels) {
+        (Some(element), Some(labels)) => leaves_frame(a.frame(), element, labels),
         _ => false,
     }
 }

@@ -82,8 +82,8 @@ struct Point {
     size: usize,
 }
 
-/// The points of size `cut` and up, row by row, left to right.
-fn kept(frame: Frame, labels: &[u8], cut: u32) -> Vec<Point> {
+/// The points of labels, row by row, left to right.
+fn points(frame: Frame, labels: &[u8]) -> Vec<Point> {
     let sized = frame.points().zip(labels).filter(|(_, &label)| label > 0);
     sized
         .map(|((x, y), &label)| Point {
@@ -91,7 +91,6 @@ fn kept(frame: Frame, labels: &[u8], cut: u32) -> Vec<Point> {
             y,
             size: label as usize - 1,
         })
-        .filter(|point| point.size as u64 >= cut as u64)
         .collect()
 }
 
@@ -99,9 +98,9 @@ fn largest(points: &[Point]) -> usize {
     points.iter().map(|point| point.size).max().unwrap_or(0)
 }
 
-/// Whether a kept point, dilated to its size, leaves the frame (row 5).
-pub fn leaves_frame(frame: Frame, element: u32, cut: u32, labels: &[u8]) -> bool {
-    let points = kept(frame, labels, cut);
+/// Whether a point of the labels, dilated to its size, leaves the frame (row 5).
+pub fn leaves_frame(frame: Frame, element: u32, labels: &[u8]) -> bool {
+    let points = points(frame, labels);
     let folds = folds(element, frame, largest(&points));
     points.iter().any(|p| match folds.get(p.size) {
         Some(fold) => !fold.fits(frame, p.x, p.y),
@@ -123,14 +122,16 @@ fn cover(frame: Frame, element: u32, points: &[Point]) -> Set {
 
 /// Partial reconstruction ("rebuilding") from the points of size `cut` and up.
 pub fn reconstruct(frame: Frame, element: u32, cut: u32, labels: &[u8]) -> Set {
-    cover(frame, element, &kept(frame, labels, cut))
+    let mut points = points(frame, labels);
+    points.retain(|point| point.size >= cut as usize);
+    cover(frame, element, &points)
 }
 
 /// The globally minimal skeleton ("shortening"): by size, smallest first, and within a size
 /// in row order, a point is dropped when each pixel it covers is also covered by another
 /// point still there.
 pub fn minimise(frame: Frame, element: u32, labels: &[u8]) -> Vec<u8> {
-    let mut points = kept(frame, labels, 0);
+    let mut points = points(frame, labels);
     let folds = folds(element, frame, largest(&points));
     let covered = |p: &Point| folds[p.size].places(frame, p.x, p.y);
     // How many points still there cover each pixel.

@@ -10,10 +10,10 @@ use Rattle.containment.proofs.column_limits.Statement.{statement}
 use Rattle.containment.proofs.column_limits.Tie as tie
 
 abbrev Inv-loop : tie.InvT-loop
-Inv-loop w lo hi cut limits₀ x₀ limits x = (x ≤ w) × (length limits ≡ length limits₀) × ((j : ℕ) → j < x → Limit cut (roomAt w lo hi j) (getD limits j 0))
+Inv-loop w lo hi limits₀ x₀ limits x = (x ≤ w) × (length limits ≡ length limits₀) × ((j : ℕ) → j < x → Limit (roomAt w lo hi j) (getD limits j 0))
 
 abbrev μ-loop : tie.MeasureT-loop
-μ-loop w lo hi cut limits₀ x₀ limits x = w - x
+μ-loop w lo hi limits₀ x₀ limits x = w - x
 
 loop-holds : tie.Need-loop-holds Inv-loop μ-loop
 loop-holds c = (omega arith, refl, λ j l. absurd (not-suc-le-zero l))
@@ -36,7 +36,7 @@ loop-again c =
     let l = c .before .before .loop in (
       omega arith,
       length-set (l .limits) (l .x) (c .limit-at .result) ∙ l .inv .1,
-      limits-more (λ j v. Limit (a .cut) (roomAt (a .w) (a .lo) (a .hi) j) v) (l .limits) (l .x) (c .limit-at .result) (omega (arith, l .inv .1)) (l .inv .2)
+      limits-more (λ j v. Limit (roomAt (a .w) (a .lo) (a .hi) j) v) (l .limits) (l .x) (c .limit-at .result) (omega (arith, l .inv .1)) (l .inv .2)
           (c .limit-at .ensures),
     )
 

@@ -15,7 +15,7 @@ limit-requires c κs = search needs
 returns : tie.Need-returns
 returns c =
     let a = c .before .before .args in
-    limit-of (a .cut) (c .limit .result) (λ n. leb n (c .before .room .result)) (roomAt (a .side) (a .lo) (a .hi) (a .x)) (c .before .room .ensures)
+    limit-of (c .limit .result) (λ n. leb n (c .before .room .result)) (roomAt (a .side) (a .lo) (a .hi) (a .x)) (c .before .room .ensures)
     (c .limit .ensures)
 
 pub limit-at-spec : {M : Type 1} → statement M

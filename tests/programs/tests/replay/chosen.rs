@@ -288,7 +288,8 @@ fn every_kind_of_image() {
     replay.end();
 }
 
-/// Labels of every kind at every cut, and their tickets.
+/// Labels of every kind at every cut, and their tickets. A bad map is bad at any cut, and cannot be
+/// shortened.
 #[test]
 fn every_kind_of_labels() {
     let mut replay = Replay::start();
@@ -309,17 +310,23 @@ fn every_kind_of_labels() {
         let skeleton = kind == LabelsKind::Skeleton;
         assert_eq!(met.contains_key(&("decode", "", "refused")), !skeleton);
         reached(&met, "decode", "", if skeleton { "ink" } else { "refused" });
-        let refused = matches!(kind, LabelsKind::Beyond | LabelsKind::Any);
-        let answered = if refused { "refused" } else { "ink" };
-        for cut in ["0", "largest"] {
+        let bad = matches!(kind, LabelsKind::Beyond | LabelsKind::Any);
+        let or_bad = |answered| if bad { "refused" } else { answered };
+        reached(&met, "minimise", "", or_bad("ink"));
+        for (cut, answered) in [
+            ("0", or_bad("ink")),
+            ("largest", or_bad("ink")),
+            ("largest + 1", or_bad("blank")),
+            ("255", or_bad("blank")),
+            ("256", "refused"),
+            ("4294967295", "refused"),
+        ] {
             reached(&met, "reconstruct", cut, answered);
         }
-        reached(&met, "minimise", "", answered);
-        for cut in ["largest + 1", "255"] {
-            reached(&met, "reconstruct", cut, "blank");
-        }
-        for cut in ["256", "4294967295"] {
-            reached(&met, "reconstruct", cut, "refused");
+        let refused = |operation, cut| met.get(&(operation, cut, "refused")).copied();
+        for cut in ["0", "1", "largest", "largest + 1", "255"] {
+            let [rebuilt, shortened] = [refused("reconstruct", cut), refused("minimise", "")];
+            assert_eq!(rebuilt, shortened, "{kind:?}, cut {cut}");
         }
     }
     replay.end();

@@ -1,5 +1,6 @@
-//! The cases A to M of 01, J and K as T-04 has them, and the codes of 02, written and read, from
-//! the tables that the second program is held to, and what a cut makes of shortened labels.
+//! The cases A to M of 01, J and K as T-04 has them and L as T-05 has it, and the codes of 02,
+//! written and read, from the tables that the second program is held to, and what a cut makes of
+//! shortened labels.
 
 use programs::format::{Message, Reply};
 use programs::replay::Replay;

@@ -52,6 +52,7 @@ pub const DAMAGES: &[Damage] = &[
     (4, |p| set_padding(p, |frame| frame.height / 2, |frame| frame.width % 8)),
     (5, |p| set_label(p, |_| 0)),
     (5, |p| set_label(p, |len| len - 1)),
+    (5, |p| hide_label(p, |_| 0)),
     (6, |p| set_mask(p, |fg, bg| (fg | 512, bg))),
     (6, |p| set_mask(p, |fg, bg| (fg, bg | 512))),
     (6, |p| set_mask(p, |fg, bg| (fg | 1 << 31, bg))),
@@ -162,6 +163,11 @@ fn set_label(p: &mut Parts, place: fn(usize) -> usize) -> bool {
         }
         _ => false,
     }
+}
+
+/// The same where there is a cut, which is then above that size.
+fn hide_label(p: &mut Parts, place: fn(usize) -> usize) -> bool {
+    p.cut_or_n.is_some() && set_label(p, place) && change_if(&mut p.cut_or_n, |cut| cut.max(255))
 }
 
 fn set_mask(p: &mut Parts, to: fn(u32, u32) -> (u32, u32)) -> bool {

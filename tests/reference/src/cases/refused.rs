@@ -50,11 +50,9 @@ pub struct Damaged {
 }
 
 impl Damaged {
-    /// The row that is answered: the lowest. A cut above 255 keeps no point, so that row 5
-    /// cannot apply with row 7.
+    /// The row that is answered: the lowest.
     pub fn row(&self) -> u8 {
-        let applies = |row: &&u8| **row != 5 || !self.rows.contains(&7);
-        *self.rows.iter().find(applies).expect("a row")
+        self.rows[0]
     }
 
     /// The call with every lent buffer as it is afterwards: no byte has changed, but that row 8

@@ -1,5 +1,5 @@
-//! The cases A to M of 01, J and K as T-04 has them, sentence by sentence: expected values are
-//! the documents'. And one chain of calls beside them.
+//! The cases A to M of 01, J and K as T-04 has them and L as T-05 has it, sentence by sentence:
+//! expected values are the documents'. And one chain of calls beside them.
 
 use super::Call;
 use crate::drawn::{full, image, labels};
@@ -53,7 +53,7 @@ pub fn settled() -> Vec<Settled> {
         thin('K', middle, Thinned { passes: 3, removed: 4, area: 5 }, "00000/01010/01100/01000/00000"),
         reconstruct('L', "2", SQUARE, 0, Refused(5), ""),
         reconstruct('L', "2", SQUARE, 1, Refused(5), ""),
-        reconstruct('L', "2", SQUARE, 2, Area(0), "0"),
+        reconstruct('L', "2", SQUARE, 2, Refused(5), ""),
         // 256 by 1 would take 32 bytes.
         case('M', decomposed(256, 1, 0, vec![0; 32]), Refused(1), &[]),
         case('M', eroded(256, 1, 0, vec![0; 32]), Refused(1), &[]),

@@ -170,7 +170,7 @@ pub enum LabelsKind {
     /// The same, minimal ("shortened").
     Minimal,
     /// From no image, but accepted.
-    Wild,
+    Free,
     /// The same, but for one point that is too large by one size.
     Beyond,
     /// Any bytes.
@@ -180,7 +180,7 @@ pub enum LabelsKind {
 pub const LABELS_KINDS: [LabelsKind; 5] = [
     LabelsKind::Skeleton,
     LabelsKind::Minimal,
-    LabelsKind::Wild,
+    LabelsKind::Free,
     LabelsKind::Beyond,
     LabelsKind::Any,
 ];
@@ -190,7 +190,7 @@ pub fn labels(rng: &mut Rng, w: u32, h: u32, element: u32) -> Vec<u8> {
     let kind = match rng.below(8) {
         0..=2 => LabelsKind::Skeleton,
         3 => LabelsKind::Minimal,
-        4..=5 => LabelsKind::Wild,
+        4..=5 => LabelsKind::Free,
         6 => LabelsKind::Beyond,
         _ => LabelsKind::Any,
     };
@@ -207,8 +207,8 @@ pub fn labels_of(rng: &mut Rng, kind: LabelsKind, w: u32, h: u32, element: u32) 
     match kind {
         LabelsKind::Skeleton => skeleton(),
         LabelsKind::Minimal => skeleton::minimise(frame, element, &skeleton()),
-        LabelsKind::Wild => wild(rng, frame, element, false),
-        LabelsKind::Beyond => wild(rng, frame, element, true),
+        LabelsKind::Free => free(rng, frame, element, false),
+        LabelsKind::Beyond => free(rng, frame, element, true),
         LabelsKind::Any => {
             let holes = rng.pick(&[1, 2, 8]);
             let label = |rng: &mut Rng| rng.number() as u8 * rng.one_in(holes) as u8;
@@ -219,7 +219,7 @@ pub fn labels_of(rng: &mut Rng, kind: LabelsKind, w: u32, h: u32, element: u32) 
 
 /// Labels that come from no image: each point has any size that fits its place; if asked for,
 /// one has the smallest size that does not.
-fn wild(rng: &mut Rng, frame: Frame, element: u32, beyond: bool) -> Vec<u8> {
+fn free(rng: &mut Rng, frame: Frame, element: u32, beyond: bool) -> Vec<u8> {
     let folds = folds(element, frame, 254);
     let mut labels = vec![0; frame.pixels()];
     let points = rng.between(1, frame.pixels().min(60));

@@ -1,4 +1,5 @@
-//! The cases A to M of 01, J and K as T-04 has them, from the table that the comparisons share.
+//! The cases A to M of 01, J and K as T-04 has them and L as T-05 has it, from the table that the
+//! comparisons share.
 
 use reference::cases::{run, settled, Settled};
 

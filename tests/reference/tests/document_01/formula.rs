@@ -71,21 +71,22 @@ fn formula_erode_and_open() {
 #[test]
 fn formula_reconstruct() {
     let rng = &mut Rng::new(3);
-    let mut accepted = 0;
+    let (mut accepted, mut hidden) = (0, 0);
     for _ in 0..3000 {
         let (w, h, element, _) = small(rng);
         let (b, labels) = (plain::element(element), cases::labels(rng, w, h, element));
         let cut = rng.between(0, 4) as u32;
+        let frame = plain::frame(w, h).collect();
         // With sides up to 12 a size above 12 always leaves the frame.
-        let kept = labels.iter().filter(|&&label| label as u32 > cut);
-        let leaves = kept.clone().any(|&label| label > 13) || {
-            let union = plain::reconstruct(w, h, &b, cut, &labels);
-            let frame = plain::frame(w, h).collect();
-            !union.is_subset(&frame)
+        let leaves = |cut: u32| {
+            let large = |&label: &u8| label > 13 && label as u32 > cut;
+            labels.iter().any(large)
+                || !plain::reconstruct(w, h, &b, cut, &labels).is_subset(&frame)
         };
         let (answer, image) = calls::reconstruct(w, h, element, cut, &labels);
-        if leaves {
+        if leaves(0) {
             assert_eq!(answer, Refused(5));
+            hidden += !leaves(cut) as u32;
         } else {
             let union = plain::reconstruct(w, h, &b, cut, &labels);
             assert_eq!(answer, Area(union.len() as u32));
@@ -93,7 +94,7 @@ fn formula_reconstruct() {
             accepted += 1;
         }
     }
-    assert!(accepted > 1000);
+    assert!(accepted > 1000 && hidden > 100, "{accepted} {hidden}");
 }
 
 #[test]

@@ -1,6 +1,6 @@
 //! The generated calls reach what they are meant to reach.
 
-use reference::cases::{call, input, run};
+use reference::cases::{call, input, run, Call};
 use reference::{program, Answer};
 use std::collections::{BTreeMap, BTreeSet};
 
@@ -55,6 +55,28 @@ fn generated_calls_meet_every_side_and_cut() {
         assert!(cuts.contains(&cut), "{cut}");
     }
     assert!((0..=25).all(|points| elements.contains(&points)));
+}
+
+/// Maps with a wild point from the cut on, and maps whose wild points are all below it.
+#[test]
+fn generated_calls_meet_wild_points_on_both_sides_of_the_cut() {
+    let (mut below, mut from) = (0, 0);
+    for seed in 0..6000 {
+        let mut call = call(seed);
+        let wild = row(&run(&call).0) == 5;
+        if let (Call::Reconstruct { cut, labels, .. }, true) = (&mut call, wild) {
+            let hidden = |label: &&mut u8| **label as u32 <= *cut;
+            labels
+                .iter_mut()
+                .filter(hidden)
+                .for_each(|label| *label = 0);
+            match row(&run(&call).0) {
+                5 => from += 1,
+                _ => below += 1,
+            }
+        }
+    }
+    assert!(below > 50 && from > 50, "{below} {from}");
 }
 
 #[test]

@@ -1,5 +1,5 @@
-//! Tests of document 01, hit-or-miss with the edge of T-04. Expected values are the documents';
-//! where they give none, they come from `plain`, the formula by sets of points.
+//! Tests of document 01, hit-or-miss with the edge of T-04 and row 5 of T-05. Expected values are
+//! the documents'; where they give none, they come from `plain`, the formula by sets of points.
 
 mod calls;
 mod cases_a_to_m;

@@ -61,12 +61,14 @@ fn square_is_a_chain_of_four_pairs() {
     assert!(plain::element(SQUARE).len() > 2 * 2 * 2);
 }
 
-/// A cut above 255 keeps no label, so that a wild map is no reason: 7, not 5.
+/// A cut above 255 keeps no point, and a wild map is bad at any cut: 5, not 7.
 #[test]
 fn wild_labels_with_a_cut_above_255() {
-    assert_eq!(calls::reconstruct(1, 1, SQUARE, 254, &[255]).0, Refused(5));
-    assert_eq!(calls::reconstruct(1, 1, SQUARE, 255, &[255]).0, Area(0));
-    assert_eq!(calls::reconstruct(1, 1, SQUARE, 256, &[255]).0, Refused(7));
+    for cut in [254, 255, 256, u32::MAX] {
+        assert_eq!(calls::reconstruct(1, 1, SQUARE, cut, &[255]).0, Refused(5));
+    }
+    assert_eq!(calls::reconstruct(1, 1, SQUARE, 255, &[1]).0, Area(0));
+    assert_eq!(calls::reconstruct(1, 1, SQUARE, 256, &[1]).0, Refused(7));
 }
 
 /// Of a sieve whose second call alone is refused, the image stays; labels and work hold what
@@ -117,7 +119,7 @@ fn cover_counts_of_a_large_frame() {
 
 /// Labels that come from no image are minimised by the same walk.
 #[test]
-fn wild_labels_are_minimised_by_the_same_walk() {
+fn free_labels_are_minimised_by_the_same_walk() {
     let (answer, minimal) = calls::minimise(5, 1, RIGHT, &labels("22220"));
     assert_eq!(
         (answer, draw_labels(5, &minimal).as_str()),

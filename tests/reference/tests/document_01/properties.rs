@@ -156,6 +156,26 @@ fn a_list_of_sieves_is_one_opening_by_the_largest_cut() {
     }
 }
 
+/// "A bad map is bad at any cut": labels are refused at all cuts or at none, and by shortening too.
+#[test]
+fn a_bad_map_is_bad_at_any_cut() {
+    let rng = &mut Rng::new(19);
+    let (mut bad, mut sound) = (0, 0);
+    for _ in 0..1500 {
+        let (w, h) = (rng.between(1, 30) as u32, rng.between(1, 16) as u32);
+        let element = cases::element(rng);
+        let labels = cases::labels(rng, w, h, element);
+        let is_bad = calls::minimise(w, h, element, &labels).0 == Refused(5);
+        for cut in [0, 1, 2, 3, 5, 8, 16, 30, 254, 255, 256, u32::MAX] {
+            let (answer, _) = calls::reconstruct(w, h, element, cut, &labels);
+            assert_eq!(answer == Refused(5), is_bad, "cut {cut}");
+        }
+        bad += is_bad as u32;
+        sound += !is_bad as u32;
+    }
+    assert!(bad > 200 && sound > 600, "{bad} {sound}");
+}
+
 /// The minimal labels reconstruct the same, and not with any one more point dropped.
 #[test]
 fn minimal_labels() {

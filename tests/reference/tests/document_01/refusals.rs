@@ -80,7 +80,6 @@ fn row_of(call: &Call) -> u8 {
     {
         return 3;
     }
-    let cut_or_n = p.cut_or_n.map_or(0, |n| *n);
     if let Some(image) = &p.read {
         let mask = 0xFFu16 >> ((w + 7) % 8 + 1);
         let mut rows = image.chunks(w.div_ceil(8));
@@ -101,8 +100,7 @@ fn row_of(call: &Call) -> u8 {
                 && y + n * bottom < h as i32
         };
         let points = plain::points(w as u32, h as u32, labels);
-        let mut kept = points.into_iter().filter(|&(_, n)| n >= cut_or_n as usize);
-        if !kept.all(inside) {
+        if !points.into_iter().all(inside) {
             return 5;
         }
     }
@@ -111,7 +109,7 @@ fn row_of(call: &Call) -> u8 {
             return 6;
         }
     }
-    if cut_or_n > 255 {
+    if p.cut_or_n.is_some_and(|n| *n > 255) {
         return 7;
     }
     // Only a code has an output of any length; where it is long enough, its bytes are answered.
@@ -314,17 +312,25 @@ fn row_4_not_for_an_image_only_written() {
 }
 
 #[test]
-fn row_5_kept_points_leave_the_frame() {
+fn row_5_a_point_leaves_the_frame() {
     // RIGHT on 3 by 1: size n at x fits when x+n is 2 or less.
     for x in 0..3 {
         for size in 0..255 {
             let mut labels = [0; 3];
             labels[x] = size as u8 + 1;
             let leaves = x + size > 2;
-            let refused = |cut| calls::reconstruct(3, 1, RIGHT, cut, &labels).0 == Refused(5);
-            assert_eq!(refused(0), leaves);
-            assert_eq!(refused(size as u32), leaves, "a size at the cut is kept");
-            assert!(!refused(size as u32 + 1), "a size below the cut is not");
+            for cut in (0..=256).chain([u32::MAX]) {
+                let wanted = match cut {
+                    _ if leaves => Some(5),
+                    256.. => Some(7),
+                    _ => None,
+                };
+                let row = match calls::reconstruct(3, 1, RIGHT, cut, &labels).0 {
+                    Refused(row) => Some(row),
+                    _ => None,
+                };
+                assert_eq!(row, wanted, "size {size}, cut {cut}");
+            }
             assert_eq!(
                 calls::minimise(3, 1, RIGHT, &labels).0 == Refused(5),
                 leaves

@@ -117,9 +117,9 @@ fn widths_about_whole_words() {
                 if let Some(byte) = flipped.get_mut(at) {
                     *byte ^= 1 << rng.below(8);
                 }
-                let labels = labels_of(rng, LabelsKind::Wild, w, h, sheet.element);
-                let wild = ticket_of_labels(w, h, sheet.element, &labels);
-                for (mark, stream) in [(mark, stream), (mark, flipped), wild] {
+                let labels = labels_of(rng, LabelsKind::Free, w, h, sheet.element);
+                let free = ticket_of_labels(w, h, sheet.element, &labels);
+                for (mark, stream) in [(mark, stream), (mark, flipped), free] {
                     let call = sheet.call(rng, mark, stream);
                     calls.push((format!("words, seed {seed}"), call));
                 }

@@ -444,7 +444,7 @@ fn the_largest_size_is_part_of_the_ticket() {
 fn the_map_isnt_the_skeleton_of_the_scan_it_rebuilds() {
     let rng = &mut Rng::new(10);
     let (mut skeletons, mut others) = (0, 0);
-    for kind in [LabelsKind::Skeleton, LabelsKind::Minimal, LabelsKind::Wild] {
+    for kind in [LabelsKind::Skeleton, LabelsKind::Minimal, LabelsKind::Free] {
         for _ in 0..700 {
             let (w, h) = (rng.between(1, 14) as u32, rng.between(1, 10) as u32);
             let element = cases::element(rng);
