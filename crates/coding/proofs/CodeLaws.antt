@@ -11,7 +11,7 @@ use lib.ListN.{getD, length}
 use Rattle.coding.specs.Codes.{mapCode, mapRuns, ofSize, sizesDown}
 use Rattle.coding.specs.Runs.{mask, runs, runsDown, unmasked}
 use Rattle.coding.specs.Writing.{downFrom}
-use Rattle.coding.proofs.MaskLaws.{eroded-above, labelAt-le, size-subset}
+use Rattle.coding.proofs.MaskLaws.{eroded-above, size-subset}
 use Rattle.morphology.specs.Labels.{labelAt}
 use Rattle.morphology.specs.Lists.{greatest, tabulate}
 use Rattle.morphology.specs.Morphology.{erode, times}
@@ -20,6 +20,7 @@ use Rattle.morphology.specs.Skeleton.{skeletonFunction, skeletonLabels, skeleto
 use Rattle.morphology.proofs.DecomposeLaws.{eroded-on, greatest-raster, labels-done, last-subset}
 use Rattle.morphology.proofs.ElementLaws.{Element}
 use Rattle.morphology.proofs.FrameLaws.{OnFrame}
+use Rattle.morphology.proofs.LabelLaws.{labelAt-le}
 use Rattle.morphology.proofs.MorphologyLaws.{dilate-in, dilate-out, eroded-zero, sum-out, times-suc, ⊆-of-eq}
 use Rattle.morphology.proofs.PlaneLaws.{Empty, some-point}
 use Rattle.morphology.proofs.PointLaws.{assoc, comm, unit}

@@ -1,14 +1,12 @@
 -- The masks of a skeleton: that of size n is X(n + 1) dilated once, so that no point of a size is masked.
-use mathlib.Core.Bool.{Bool, _&&_, _||_, cond, false, not, true}
+use mathlib.Core.Bool.{Bool, _&&_, _||_, false, not, true}
 use mathlib.Core.List.{List, List·Memᴰ, [], _∷_}
 use mathlib.Core.Logic.{_⊎_, inl, inr}
 use mathlib.Core.Path.{_∙_, _≡_, ap, ap₂, fun-ext, refl, subst, sym}
-use Prim.Native.Nat.{_*_, _+_, _≤_, max, suc, zero, zero-le, ℕ}
+use Prim.Native.Nat.{_+_, _≤_, max, suc, zero, zero-le, ℕ}
 use native.Mathlib.Nat.{add-zero}
 use native.Mathlib.Omega.{arith}
-use lib.Dec.{T, eqb, eqb-refl, eqb→eq, ltb}
-use lib.IntN.{negsuc, pos, ℤ}
-use lib.ListN.{getD}
+use lib.Dec.{T, eqb, eqb-refl, eqb→eq}
 use Rattle.coding.specs.Writing.{downFrom, erodedRuns}
 use Rattle.coding.specs.Runs.{mask, runs, runsDown, unmasked}
 use Rattle.coding.specs.Codes.{mapRuns, ofSize, sizesDown}
@@ -16,13 +14,12 @@ use Rattle.coding.proofs.RunLaws.{runs-on}
 use Rattle.morphology.specs.Labels.{labelAt, places, raster}
 use Rattle.morphology.specs.Lists.{greatest, tabulate}
 use Rattle.morphology.specs.Morphology.{dilate, erode, opening, times}
-use Rattle.morphology.specs.Point.{Point, at}
+use Rattle.morphology.specs.Point.{Point}
 use Rattle.morphology.specs.Skeleton.{skeletonFunction, skeletonLabels, skeletonSubset}
-use Rattle.morphology.proofs.CountLaws.{getD-greatest}
 use Rattle.morphology.proofs.DecomposeLaws.{last-subset, subset-turn, turns-lt}
 use Rattle.morphology.proofs.ElementLaws.{Element}
 use Rattle.morphology.proofs.FrameLaws.{OnFrame}
-use Rattle.morphology.proofs.LabelLaws.{labelAt-raster, on-places}
+use Rattle.morphology.proofs.LabelLaws.{labelAt-le, labelAt-raster, on-places}
 use Rattle.morphology.proofs.MorphologyLaws.{dilate-out, eroded-suc, eroded-zero, open-sub, set-ext, ⊆-of-eq}
 use Rattle.morphology.proofs.PlaneLaws.{Empty}
 use Rattle.morphology.proofs.ReconstructLaws.{label-on}
@@ -82,20 +79,6 @@ runs-eroded W H B X (suc n) d e =
     let q : suc n + d ≡ n + suc d = omega arith in
     ap₂ (λ (rs : List ℕ) (l : List (List ℕ)). rs ∷ l) (subset-eroded W H B X (suc n) (mask B (tabulate (skeletonSubset B X) (suc (suc n)) d)) (mask-eroded B X d (suc n) e))
     (runs-eroded W H B X n (suc d) (subst (λ (k : ℕ). Empty (erode (times B (suc k)) X)) q e))
-
--- a label is at most the largest
-pub labelAt-le : (W H : ℕ) (m : List ℕ) (z : Point) → labelAt W H m z ≤ greatest m
-unfolding labelAt
-labelAt-le W H m z = by (z .x) (z .y)
-  where
-    by : (x y : ℤ) → labelAt W H m (at x y) ≤ greatest m
-    by (pos x) (pos y) = go (ltb x W && ltb y H)
-      where
-        go : (b : Bool) → cond b (getD m (y * W + x) 0) 0 ≤ greatest m
-        go true = getD-greatest m (y * W + x)
-        go false = zero-le
-    by (pos x) (negsuc y) = zero-le
-    by (negsuc x) y = zero-le
 
 module _ (W H : ℕ) (B : List Point) (el : Element B) (X : Point → Bool) (on : OnFrame W H X) where
   pub subset-on : (n : ℕ) (z : Point) → T (skeletonSubset B X n z) → List·Memᴰ z (places W H)

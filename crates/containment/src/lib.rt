@@ -94,8 +94,8 @@ fn row_is_wild(row: &[u8], limits: &[u8], limit: u8) -> bool
     wild
 }
 
-// Row 5: a point of the map, of whatever size, leaves the frame when it is dilated to it: its label is above the limit of its column or its row.
-pub fn is_wild(w: usize, h: usize, element: u32, labels: &[u8]) -> bool
+// Whether a label is above the limit of its column or its row.
+fn has_wild(w: usize, h: usize, element: u32, labels: &[u8]) -> bool
     requires { ⌜ (w ≤ maxFrame) × (length (now labels) ≡ w * h) × T (isElement element) ⌝ }
     ensures { λ r. ⌜ r ≡ isWild w h (offsets element) (now (labels .entry)) ⌝ }
 {
@@ -114,4 +114,15 @@ pub fn is_wild(w: usize, h: usize, element: u32, labels: &[u8]) -> bool
         y = y + 1;
     }
     false
+}
+
+// Row 5: a point of the map leaves the frame when it is dilated to its size. One of size 0 does not: where all are, or none is there, none is looked at again.
+pub fn is_wild(w: usize, h: usize, element: u32, labels: &[u8]) -> bool
+    requires { ⌜ (w ≤ maxFrame) × (length (now labels) ≡ w * h) × T (isElement element) ⌝ }
+    ensures { λ r. ⌜ r ≡ isWild w h (offsets element) (now (labels .entry)) ⌝ }
+{
+    if label_read::greatest(labels) <= 1 {
+        return false;
+    }
+    has_wild(w, h, element, labels)
 }

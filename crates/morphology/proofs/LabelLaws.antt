@@ -1,19 +1,20 @@
 -- Places, and label buffers: there and back.
-use mathlib.Core.Bool.{Bool, _&&_, cond}
+use mathlib.Core.Bool.{Bool, _&&_, cond, false, true}
 use mathlib.Core.List.{List, List·Memᴰ}
 use mathlib.Core.Path.{_∙_, _≡_, ap, ap₂, subst, sym}
-use Prim.Native.Nat.{_%_, _*_, _+_, _/_, _<_, suc, zero, ℕ}
+use Prim.Native.Nat.{_%_, _*_, _+_, _/_, _<_, _≤_, suc, zero, zero-le, ℕ}
 use native.Mathlib.Nat.{div-add-mod', div-lt-iff-lt-mul, mod-lt, mul-comm, mul-zero, not-suc-le-zero, zero-add, zero-lt-suc}
 use borrow.Author.Tests.{lt-ltb}
 use lib.Arith.{digits-div, digits-lt, digits-mod}
-use lib.Dec.{T, ltb→lt}
+use lib.Dec.{T, ltb, ltb→lt}
 use lib.IntN.{negsuc, pos, ℤ}
 use lib.ListN.{getD, length}
 use Rattle.morphology.specs.Extent.{above}
 use Rattle.morphology.specs.Image.{inside}
 use Rattle.morphology.specs.Labels.{labelAt, place, places, raster}
-use Rattle.morphology.specs.Lists.{tabulate}
+use Rattle.morphology.specs.Lists.{greatest, tabulate}
 use Rattle.morphology.specs.Point.{Point, at}
+use Rattle.morphology.proofs.CountLaws.{getD-greatest}
 use Rattle.morphology.proofs.FrameLaws.{OnFrame}
 use Rattle.morphology.proofs.ImageLaws.{getD-row, length-row, mem-row, row-mem}
 
@@ -61,6 +62,20 @@ getD-raster W H f x y hx hy =
 pub labelAt-at : (W H : ℕ) (m : List ℕ) (x y : ℕ) → x < W → y < H → labelAt W H m (at (pos x) (pos y)) ≡ getD m (y * W + x) 0
 unfolding labelAt
 labelAt-at W H m x y hx hy = ap₂ (λ (a b : Bool). cond (a && b) (getD m (y * W + x) 0) 0) (lt-ltb x W hx) (lt-ltb y H hy)
+
+-- a label is at most the largest
+pub labelAt-le : (W H : ℕ) (m : List ℕ) (z : Point) → labelAt W H m z ≤ greatest m
+unfolding labelAt
+labelAt-le W H m z = by (z .x) (z .y)
+  where
+    by : (x y : ℤ) → labelAt W H m (at x y) ≤ greatest m
+    by (pos x) (pos y) = go (ltb x W && ltb y H)
+      where
+        go : (b : Bool) → cond b (getD m (y * W + x) 0) 0 ≤ greatest m
+        go true = getD-greatest m (y * W + x)
+        go false = zero-le
+    by (pos x) (negsuc y) = zero-le
+    by (negsuc x) y = zero-le
 
 pub labelAt-raster : (W H : ℕ) (f : Point → ℕ) {p : Point} → List·Memᴰ p (places W H) → labelAt W H (raster W H f) p ≡ f p
 labelAt-raster W H f {p} m =

@@ -7,12 +7,12 @@ use Prim.Native.Nat.{_*_, _+_, _-_, _<_, _≤_, suc, zero, zero-le, ℕ}
 use native.Mathlib.Decide.{decLt}
 use native.Mathlib.Nat.{le-refl, suc-ne-zero}
 use native.Mathlib.Omega.{arith}
-use lib.Dec.{T, T-not, eqb, eqb-refl, eqb→eq, leb, leb→le, le→leb, ltb, ltb→lt}
+use lib.Dec.{T, T-not, eqb, eqb-refl, eqb→eq, leb, leb→le, le→leb, ltb, ltb→lt, lt→ltb}
 use lib.IntN.{negsuc, pos, ℤ}
 use lib.ListN.{getD}
 use Rattle.morphology.specs.Image.{onFrame}
 use Rattle.morphology.specs.Labels.{labelAt, places}
-use Rattle.morphology.specs.Lists.{someOf}
+use Rattle.morphology.specs.Lists.{greatest, someOf}
 use Rattle.morphology.specs.Morphology.{dilate, times}
 use Rattle.morphology.specs.Partial.{partialStamp, partialUnion}
 use Rattle.morphology.specs.Point.{Point, _⊞_, at, origin, samePoint}
@@ -20,7 +20,7 @@ use Rattle.morphology.specs.Refusals.{isWild, leaves}
 use Rattle.morphology.specs.Skeleton.{reconstruct, reconstruction}
 use Rattle.morphology.proofs.ElementLaws.{Element}
 use Rattle.morphology.proofs.FrameLaws.{OnFrame, on-in, on-out}
-use Rattle.morphology.proofs.LabelLaws.{in-places}
+use Rattle.morphology.proofs.LabelLaws.{in-places, labelAt-le, of-places}
 use Rattle.morphology.proofs.MorphologyLaws.{_⊆_, dilate-in, dilate-sub, dilate-sum, dilate-zero, set-ext, sum-in, sum-out, times-add, times-suc}
 use Rattle.morphology.proofs.PlaneLaws.{Empty}
 use Rattle.morphology.proofs.PointLaws.{assoc, same-eq, same-refl, unit}
@@ -217,6 +217,20 @@ module _ (W H : ℕ) (B : List Point) (el : Element B) (m : List ℕ) where
   tame-on on = false-of (isWild W H B m) (λ t.
       let r = wild-out t in
       T-not (onFrame W H (r .0)) (r .2) (on-out W H (reconstruction W H B 0 m) on (r .0) (r .1)))
+
+  -- nor is one whose points all have size 0: each stays where it is
+  pub dots-tame : greatest m ≤ 1 → isWild W H B m ≡ false
+  unfolding reconstruction times
+  dots-tame h = tame-on (on-in W H (reconstruction W H B 0 m) (λ z t.
+      let r = reconstruct-out (places W H) B 0 (labelAt W H m) z t in
+      by (r .0) (r .1) (r .3) (r .5) (r .6)))
+    where
+      by : (p : Point) (n : ℕ) {c z : Point} → labelAt W H m p ≡ suc n → List·Memᴰ c (times B n) → z ≡ p ⊞ c → T (onFrame W H z)
+      by p zero q l e =
+          let o = of-places W H (label-on W H m p 0 q) in
+          subst (λ (y : Point). T (onFrame W H y)) (sym (e ∙ ap (λ (c : Point). p ⊞ c) (List·Memᴰ·eq-of-singleton l) ∙ unit p ∙ o .4))
+          (and-in (ltb (o .0) W) (ltb (o .1) H) (lt→ltb (o .0) W (o .2)) (lt→ltb (o .1) H (o .3)))
+      by p (suc n) q l e = absurd (omega (arith, labelAt-le W H m p))
 
   module _ (tame : isWild W H B m ≡ false) where
     -- a point dilated to its size stays on the frame

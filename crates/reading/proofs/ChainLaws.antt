@@ -10,7 +10,7 @@ use lib.Dec.{T, T-not, eqb, eqb-refl, eqb→eq, not-T}
 use lib.ListN.{getD, length}
 use Rattle.coding.specs.Codes.{ofSize}
 use Rattle.coding.specs.Runs.{mask}
-use Rattle.coding.proofs.MaskLaws.{eroded-above, eroded-split, labelAt-le, size-subset}
+use Rattle.coding.proofs.MaskLaws.{eroded-above, eroded-split, size-subset}
 use Rattle.reading.specs.Maps.{isSkeleton, labelIn}
 use Rattle.reading.specs.Points.{covered}
 use Rattle.reading.proofs.MapLaws.{Tidy, greatest-le-sizes, raster-labelAt, size-of}
@@ -26,7 +26,7 @@ use Rattle.morphology.specs.Skeleton.{reconstruction, skeletonLabels, skeletonS
 use Rattle.morphology.proofs.DecomposeLaws.{subset-turn}
 use Rattle.morphology.proofs.ElementLaws.{Element}
 use Rattle.morphology.proofs.FrameLaws.{OnFrame}
-use Rattle.morphology.proofs.LabelLaws.{length-raster}
+use Rattle.morphology.proofs.LabelLaws.{labelAt-le, length-raster}
 use Rattle.morphology.proofs.MorphologyLaws.{_⊆_, dilate-out, dilate-zero, eroded-suc, eroded-zero, set-ext, ⊆-of-eq}
 use Rattle.morphology.proofs.PlaneLaws.{Empty, empty-eq, none as nowhere}
 use Rattle.morphology.proofs.ReconstructLaws.{dilated-suc, partial-top, reconstruction-on, union-dilated, union-turn}

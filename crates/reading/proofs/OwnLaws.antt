@@ -15,7 +15,7 @@ use Rattle.coding.specs.Codes.{Code, code, codeOf, mapCode, mapRuns, mapSymbols
 use Rattle.coding.specs.Runs.{runsDown}
 use Rattle.coding.specs.Symbols.{numeral, packSymbols, sections, symbolsOf}
 use Rattle.coding.proofs.CodeLaws.{empty-none, none-empty}
-use Rattle.coding.proofs.MaskLaws.{eroded-above, labelAt-le, size-subset}
+use Rattle.coding.proofs.MaskLaws.{eroded-above, size-subset}
 use Rattle.coding.proofs.PackLaws.{length-symbols, pack-symbols}
 use Rattle.reading.specs.Maps.{Reading, codeRows, codeSet, isSkeleton, labelIn, lacks, mapRows, mapSet, placedSizes, readMap, withLabels}
 use Rattle.reading.specs.Points.{placedDown}
@@ -34,6 +34,7 @@ use Rattle.morphology.specs.Skeleton.{reconstruction, skeletonFunction, skeleto
 use Rattle.morphology.proofs.DecomposeLaws.{greatest-raster}
 use Rattle.morphology.proofs.ElementLaws.{Element}
 use Rattle.morphology.proofs.FrameLaws.{OnFrame}
+use Rattle.morphology.proofs.LabelLaws.{labelAt-le}
 use Rattle.morphology.proofs.MorphologyLaws.{open-zero, ⊆-of-eq}
 use Rattle.morphology.proofs.PlaneLaws.{Empty, empty-eq, none-on}
 use Rattle.morphology.proofs.ReconstructLaws.{reconstruction-on}

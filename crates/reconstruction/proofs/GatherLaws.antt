@@ -1,24 +1,23 @@
 -- Labels reconstructed size by size.
-use mathlib.Core.Bool.{Bool, _&&_, _||_, cond, false, true}
+use mathlib.Core.Bool.{Bool, _||_}
 use mathlib.Core.List.{List, _++_}
 use mathlib.Core.Path.{_∙_, _≡_, ap, ap₂, refl, subst, sym}
-use Prim.Native.Nat.{_*_, _+_, _-_, _<_, _≤_, max, suc, zero-le, ℕ}
+use Prim.Native.Nat.{_*_, _+_, _-_, _<_, _≤_, max, suc, ℕ}
 use native.Mathlib.Omega.{arith}
-use lib.Dec.{T, eqb, ltb}
-use lib.IntN.{negsuc, pos, ℤ}
-use lib.ListN.{drop, getD, length, length-append, length-drop, length-replicate, replicate, take}
+use lib.Dec.{T, eqb}
+use lib.ListN.{drop, length, length-append, length-drop, length-replicate, replicate, take}
 use lib.Seq.{drop-at, drop-drop, getD-take, length-take-le, take-at}
 use Rattle.morphology.specs.Element.{offsets}
 use Rattle.morphology.specs.Image.{imageSet, isClean, pack, planeBytes}
 use Rattle.morphology.specs.Labels.{labelAt}
 use Rattle.morphology.specs.Lists.{greatest}
 use Rattle.morphology.specs.Morphology.{dilate}
-use Rattle.morphology.specs.Point.{Point, at}
+use Rattle.morphology.specs.Point.{Point}
 use Rattle.morphology.specs.Skeleton.{reconstruction}
-use Rattle.morphology.proofs.CountLaws.{getD-greatest}
 use Rattle.morphology.proofs.ElementLaws.{element}
 use Rattle.morphology.proofs.FrameLaws.{OnFrame}
 use Rattle.morphology.proofs.ImageLaws.{Agree, clean-agree, image-agree, length-pack}
+use Rattle.morphology.proofs.LabelLaws.{labelAt-le}
 use Rattle.morphology.proofs.MorphologyLaws.{dilate-zero}
 use Rattle.morphology.proofs.PlaneLaws.{pack-empty}
 use Rattle.morphology.proofs.ReconstructLaws.{dilated-suc, partial-top, reconstruction-on, union-at-on, union-dilated, union-on, union-turn}
@@ -28,20 +27,6 @@ use Rattle.raster.proofs.PartLaws.{overwrite-all}
 use Rattle.iteration.specs.Steps.{First, dilated}
 use Rattle.iteration.proofs.StepLaws.{dilated-is, first-as, first-clean, first-image, first-next}
 use Rattle.reconstruction.specs.Gathered.{Tame, gathered, grown}
-
--- the largest label bounds them all
-label-greatest : (W H : ℕ) (m : List ℕ) (p : Point) → labelAt W H m p ≤ greatest m
-unfolding labelAt
-label-greatest W H m p = by (p .x) (p .y)
-  where
-    by : (x y : ℤ) → labelAt W H m (at x y) ≤ greatest m
-    by (pos x) (pos y) = go (ltb x W && ltb y H)
-      where
-        go : (b : Bool) → cond b (getD m (y * W + x) 0) 0 ≤ greatest m
-        go true = getD-greatest m (y * W + x)
-        go false = zero-le
-    by (pos x) (negsuc y) = zero-le
-    by (negsuc x) y = zero-le
 
 -- ---- one size
 
@@ -91,7 +76,7 @@ module _ (W H p e k : ℕ) (q : p ≡ planeBytes W H) (m : List ℕ) (t : Tame W
       let U = gathered W H (offsets e) m (max n k) in
       record {
         size = refl;
-        first = z ∙ ap (λ (i : ℕ). replicate i 0) q ∙ sym (pack-empty W H U (partial-top W H (offsets e) (labelAt W H m) (greatest m) (max n k) (label-greatest W H m) (omega arith)));
+        first = z ∙ ap (λ (i : ℕ). replicate i 0) q ∙ sym (pack-empty W H U (partial-top W H (offsets e) (labelAt W H m) (greatest m) (max n k) (labelAt-le W H m) (omega arith)));
         rest = refl;
       }
 
