@@ -84,8 +84,8 @@ pub record Map (W H e : ℕ) (m : List ℕ) : Type 0 where
   pub element : T (isElement e)
   pub places : length m ≡ W * H
 
--- Where image, work and counters have their lengths, with any contents, a reconstruction at whatever cut, above the largest side too,
--- and a minimisation are refused with 5.
+-- A bad one is wild. Where image, work and counters have their lengths, with any contents, a reconstruction at whatever cut, above the
+-- largest side too, and a minimisation of it are refused with 5.
 pub record Bad (W H e : ℕ) (m : List ℕ) : Type 0 where
   pub wild : Wild W H (Offset e) m
   pub reconstruction : (k : ℕ) (image work : List ℕ) → length image ≡ planeBytes W H → 3 * planeBytes W H ≤ length work
@@ -93,7 +93,8 @@ pub record Bad (W H e : ℕ) (m : List ℕ) : Type 0 where
   pub minimisation : (work counters : List ℕ) → 3 * planeBytes W H ≤ length work → length counters ≡ W * H
       → minimised W H e m work counters .answer .refusal ≡ 5
 
--- There neither is refused, at whatever cut up to the largest side.
+-- A sound one is not wild. Where they have their lengths, a reconstruction at whatever cut up to the largest side and a minimisation of it
+-- are not refused.
 pub record Sound (W H e : ℕ) (m : List ℕ) : Type 0 where
   pub stays : Wild W H (Offset e) m → ⊥
   pub reconstruction : (k : ℕ) (image work : List ℕ) → k ≤ maxSide → length image ≡ planeBytes W H → 3 * planeBytes W H ≤ length work

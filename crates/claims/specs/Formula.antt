@@ -56,7 +56,7 @@ abbrev pub Covered : ℕ → ℕ → Set → ℕ → List ℕ → Set
 Covered W H B k labels z =
     (x y n : ℕ) × (c : Point) × (x < W) × (y < H) × (getD labels (y * W + x) 0 ≡ suc n) × (k ≤ n) × Fold B n c × (z ≡ at (pos x) (pos y) ⊞ c)
 
--- a map is wild: some point that it covers, whatever the size of the points it stands for, lies off the frame
+-- a map is wild: some point that it covers from cut 0 on, so by points of whatever size, lies off the frame
 abbrev pub Wild : ℕ → ℕ → Set → List ℕ → Type 0
 Wild W H B labels = (z : Point) × Covered W H B 0 labels z × (Within W H z → ⊥)
 

@@ -1,4 +1,5 @@
 -- Reconstruction by descending dilation: from the largest size down to the cut each size is joined and dilated once, then the cut's dilations follow.
+-- A map is wild exactly when what it reconstructs at cut 0 has a point off the frame; of any other nothing is clipped.
 use mathlib.Core.Bool.{Bool, _&&_, _||_, cond, false, not, true}
 use mathlib.Core.List.{List, List·Memᴰ, List·Memᴰ·eq-of-singleton, List·Memᴰ·head, Memᴰ·cast}
 use mathlib.Core.Logic.{_⊎_, inl, inr}
