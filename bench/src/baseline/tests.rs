@@ -25,7 +25,7 @@ fn run(call: &Call) -> (Answer, Call) {
             reconstruct(*w, *h, *element, *cut, labels, image, work).map(Answer::Area),
         Call::Minimise { w, h, element, labels, work, counters } =>
             minimise(*w, *h, *element, labels, work, counters).map(Answer::Minimal),
-        Call::HitOrMiss { .. } => return cases::run(call),
+        Call::HitOrMiss { .. } | Call::Dilate { .. } => return cases::run(call),
         Call::Thin { w, h, image, work } =>
             thin(*w, *h, image, work).map(|Thinned { passes, removed, area }| {
                 Answer::Thinned { passes, removed, area }

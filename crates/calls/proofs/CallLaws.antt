@@ -1,11 +1,12 @@
 -- A call by number is the operation's own; a reply says the answer that it was made of.
 use mathlib.Core.List.{List, [], _++_, _∷_}
-use mathlib.Core.Option.{none}
 use mathlib.Core.Path.{_∙_, _≡_, ap, refl, sym}
 use Prim.Native.Nat.{_≤_, suc, ℕ}
 use native.Mathlib.Omega.{arith}
 use lib.ListN.{List·getD-eq-default}
-use Rattle.reading.specs.Decoding.{decoded}
+use Rattle.dilation.specs.Dilation.{answerOf as dilatedAnswer, dilated}
+use Rattle.dilation.specs.declared.Dilated.{Dilated}
+use Rattle.dilation.specs.declared.Dilated.the-variants.{Done as Grown, Refused as NotDilated}
 use Rattle.encoding.specs.Encoded.{answerOf as encodedAnswer}
 use Rattle.encoding.specs.declared.Encoded.{Encoded}
 use Rattle.encoding.specs.declared.Encoded.the-variants.{Blank as NoStream, Refused as NotEncoded, Stream}
@@ -53,6 +54,10 @@ encoded-kept (NotEncoded n) = refl
 encoded-kept NoStream = refl
 encoded-kept (Stream b n) = refl
 
+pub dilated-kept : (d : Dilated) → Faithful (dilatedAnswer d)
+dilated-kept (NotDilated n) = refl
+dilated-kept (Grown n fell) = refl
+
 -- ---- what a call owes: the outcome, and a reply with 0 where it has no value
 
 abbrev pub Owed : Reply → List (List ℕ) → Outcome → Type 0
@@ -77,6 +82,6 @@ module _ (W H a b : ℕ) (x y z c : List ℕ) where
   pub called-as : {op : ℕ} (k : ℕ) → op ≡ k → called op W H a b x y z c ≡ called k W H a b x y z c
   called-as k e = ap (λ (n : ℕ). called n W H a b x y z c) e
 
-  pub called-blank : (op : ℕ) → 9 ≤ op → called op W H a b x y z c ≡ beside (decoded W H a none x y z) (c ∷ [])
+  pub called-dilated : (op : ℕ) → 10 ≤ op → called op W H a b x y z c ≡ beside (dilated W H a x y z) (c ∷ [])
   unfolding called
-  called-blank op h = List·getD-eq-default (operations W H a b x y z c) _ h
+  called-dilated op h = List·getD-eq-default (operations W H a b x y z c) _ h

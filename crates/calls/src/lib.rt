@@ -2,6 +2,7 @@
 mod format;
 
 use decoding::Mark;
+use dilation::Dilated;
 use encoding::Encoded;
 pub use format::HEADER;
 pub use format::answer;
@@ -17,6 +18,7 @@ ghost use lib.Dec.{ltb};
 ghost use lib.ListN.{length};
 ghost use Rattle.morphology.specs.Answers.{answered, outcome, refused as refusedAnswer};
 ghost use Rattle.morphology.specs.Image.{onesOf};
+ghost use Rattle.dilation.specs.Dilation.{answerOf as dilatedAnswer};
 ghost use Rattle.encoding.specs.Encoded.{answerOf as encodedAnswer};
 ghost use Rattle.iteration.specs.Written.{answerOf as writtenAnswer};
 ghost use Rattle.minimal.specs.Minimised.{answerOf as minimisedAnswer};
@@ -136,6 +138,26 @@ fn of_encoded(a: Encoded) -> Reply
     }
 }
 
+// 1 for yes, 0 for no.
+fn one_if(yes: bool) -> u32
+    ensures { λ n. ⌜ n ≡ cond yes 1 0 ⌝ }
+{
+    if yes {
+        return 1;
+    }
+    0
+}
+
+// The answer of a dilation.
+fn of_dilated(a: Dilated) -> Reply
+    ensures { λ r. ⌜ r ≡ replyOf (dilatedAnswer a) ⌝ }
+{
+    match a {
+        Dilated::Refused(n) => refused(n),
+        Dilated::Done { area, fell } => two(area, one_if(fell)),
+    }
+}
+
 // Calls operation `op`: x is read, y, z and c are lent. A buffer that the operation does not have stays as it is. Exported for bench/.
 #[no_mangle]
 pub extern "C" fn call(
@@ -163,7 +185,8 @@ pub extern "C" fn call(
         6 => of_thinned(thinning::thin(w, h, y, z)),
         7 => of_encoded(encoding::encode(w, h, a, x, y, z)),
         8 => of_written(decoding::decode(w, h, a, Mark::Largest(b), x, y, z)),
-        _ => of_written(decoding::decode(w, h, a, Mark::Blank, x, y, z)),
+        9 => of_written(decoding::decode(w, h, a, Mark::Blank, x, y, z)),
+        _ => of_dilated(dilation::dilate(w, h, a, x, y, z)),
     }
 }
 

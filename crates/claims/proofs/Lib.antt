@@ -10,3 +10,4 @@ pub mod Claims
 pub mod SymbolLaws
 pub mod Codes
 pub mod Readings
+pub mod Falling

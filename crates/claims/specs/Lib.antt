@@ -3,3 +3,4 @@ pub mod Sieves
 pub mod Claims
 pub mod Codes
 pub mod Readings
+pub mod Falling

@@ -25,10 +25,10 @@ module _ {W H r : ℕ} (f : Frame W H r) (s : List ℕ) (bytes : (i : ℕ) → g
   agree-taken : Agree W H (take (H * r) s) s
   agree-taken j l = getD-take (H * r) s j 0 (omega (arith, frame-bytes f))
 
-  pub taken-image : imageSet W H (take (H * r) s) ≡ imageSet W H s
+  taken-image : imageSet W H (take (H * r) s) ≡ imageSet W H s
   taken-image = image-agree W H (take (H * r) s) s agree-taken
 
-  pub taken-clean : T (isClean W H (take (H * r) s))
+  taken-clean : T (isClean W H (take (H * r) s))
   taken-clean = clean-agree W H s (take (H * r) s) (λ j l. sym (agree-taken j l)) clean
 
   pub taken-plane : pack W H (imageSet W H s) ≡ take (H * r) s

@@ -1,5 +1,4 @@
-pub mod ColumnLaws
-pub mod EdgeLaws
 pub mod LentLaws
+pub mod ReachLaws
 pub mod GrowLaws
 pub mod ErodedLaws

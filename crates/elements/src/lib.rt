@@ -1,12 +1,10 @@
 // Structuring elements as numbers: the bit of the origin, the first number that is none, how far an element goes to each of the four sides.
 ghost use mathlib.Core.Path.{_≡_};
-ghost use mathlib.Core.Bool.{cond};
-ghost use Prim.Native.Nat.{_/_, _%_, _<_, _≤_, max};
-ghost use lib.Dec.{eqb};
-ghost use lib.IntN.{subℕ};
+ghost use Prim.Native.Nat.{_≤_};
 ghost use Rattle.morphology.specs.Element.{offsets};
 ghost use Rattle.morphology.specs.Extent.{extent as extentOf};
-ghost use Rattle.elements.specs.Measures.{measure, reach as reachOf};
+ghost use Rattle.elements.specs.Lines.{line};
+ghost use Rattle.elements.specs.Measures.{measure};
 
 // The bit of the origin.
 pub const ORIGIN: u32 = 4096;
@@ -14,55 +12,47 @@ pub const ORIGIN: u32 = 4096;
 // An element's number is below this.
 pub const MASK_END: u32 = 33554432;
 
-// The coordinate of an element's bit i, plus 2: x (across) or y.
-fn coordinate(across: bool, i: usize) -> usize
-    ensures { λ a. ⌜ a ≡ cond across (i % 5) (i / 5) ⌝ }
+// The line of the square that lies 2 to one side. A number's last five digits are row 0, and the last digit of each five is column 0.
+fn outer(across: bool, forward: bool) -> u32
+    ensures { λ m. ⌜ m ≡ line across forward 2 ⌝ }
 {
     if across {
-        return i % 5;
+        if forward {
+            return 0b10000_10000_10000_10000_10000;
+        }
+        return 0b00001_00001_00001_00001_00001;
     }
-    i / 5
-}
-
-// How far the coordinate a - 2 goes forward or back.
-fn reach(forward: bool, a: usize) -> usize
-    ensures { λ r. ⌜ r ≡ reachOf forward (subℕ a 2) ⌝ }
-{
     if forward {
-        if a < 2 {
-            return 0;
-        }
-        return a - 2;
+        return 0b11111_00000_00000_00000_00000;
     }
-    if a < 2 {
-        return 2 - a;
-    }
-    0
+    0b00000_00000_00000_00000_11111
 }
 
-// The larger of two, or the first where digit is not 1.
-fn farther(digit: u32, far: usize, r: usize) -> usize
-    ensures { λ m. ⌜ m ≡ cond (eqb digit 1) (max far r) far ⌝ }
+// The line that lies 1 to that side.
+fn inner(across: bool, forward: bool) -> u32
+    ensures { λ m. ⌜ m ≡ line across forward 1 ⌝ }
 {
-    if digit == 1 {
-        if far < r {
-            return r;
+    if across {
+        if forward {
+            return 0b01000_01000_01000_01000_01000;
         }
+        return 0b00010_00010_00010_00010_00010;
     }
-    far
+    if forward {
+        return 0b00000_11111_00000_00000_00000;
+    }
+    0b00000_00000_00000_11111_00000
 }
 
 // How far an element goes to one side: along x (across) or y, forward or back.
 pub fn extent(element: u32, across: bool, forward: bool) -> usize
     ensures { λ r. ⌜ (r ≡ extentOf (measure across forward) (offsets element)) × (r ≤ 2) ⌝ }
 {
-    let mut far: usize = 0;
-    let mut rest = element;
-    let mut i: usize = 0;
-    while i < 25 {
-        far = farther(rest % 2, far, reach(forward, coordinate(across, i)));
-        rest = rest / 2;
-        i = i + 1;
+    if element & outer(across, forward) != 0 {
+        return 2;
     }
-    far
+    if element & inner(across, forward) != 0 {
+        return 1;
+    }
+    0
 }

@@ -1,5 +1,5 @@
 -- Erosions and dilations in the first plane of work, one after the other.
-use mathlib.Core.Bool.{Bool, false, not}
+use mathlib.Core.Bool.{Bool, _||_, false, not}
 use mathlib.Core.List.{List, [], _++_, _∷_}
 use mathlib.Core.Path.{_∙_, _≡_, ap, ap₂, refl, sym}
 use Prim.Native.Nat.{_*_, _+_, _-_, _/_, _<_, _^_, _≤_, suc, zero, ℕ}
@@ -11,7 +11,9 @@ use lib.Dec.{T, eqb}
 use lib.ListN.{List·getD-append, drop, getD, length, length-append, length-drop, length-take, replicate, take}
 use lib.Seq.{drop-at, drop-drop, getD-take, length-take-le, take-at}
 use Rattle.morphology.specs.Element.{isElement, offsets}
+use Rattle.morphology.specs.Falls.{fallsOff}
 use Rattle.morphology.specs.Image.{clip, imageSet, isClean, onFrame, onesOf, pack, planeBytes, stride}
+use Rattle.morphology.specs.InTurn.{inTurn}
 use Rattle.morphology.specs.Lists.{someOf}
 use Rattle.morphology.specs.Morphology.{dilate, erode, times}
 use Rattle.morphology.specs.Operations.{cleared, clearedPlanes}
@@ -19,10 +21,11 @@ use Rattle.morphology.specs.Point.{Point}
 use Rattle.morphology.specs.Refusals.{notPlane, row4, shortWork}
 use Rattle.morphology.proofs.DecomposeLaws.{eroded-on}
 use Rattle.morphology.proofs.ElementLaws.{element}
+use Rattle.morphology.proofs.FallsLaws.{on-falls}
 use Rattle.morphology.proofs.FoldTurns.{dilate-empty, eroded-stop, eroded-turn, opened-on}
 use Rattle.morphology.proofs.FrameLaws.{OnFrame}
-use Rattle.morphology.proofs.ImageLaws.{Agree, clean-agree, clean-pack, clip-is, clip-on, image-agree, image-pack, length-pack, pack-image}
-use Rattle.morphology.proofs.MorphologyLaws.{dilate-sum, dilate-zero}
+use Rattle.morphology.proofs.ImageLaws.{Agree, clean-agree, clean-pack, image-agree, image-pack, length-pack, pack-image}
+use Rattle.morphology.proofs.InTurnLaws.{times-fall, times-whole, turns-on}
 use Rattle.morphology.proofs.PlaneLaws.{Empty, area-pack, empty-pack, pack-empty}
 use Rattle.morphology.proofs.RefusalLaws.{T-of-not, fits-plane}
 use Rattle.morphology.proofs.TestLaws.{and-r}
@@ -141,53 +144,59 @@ module _ (W H p e : ℕ) (el : T (isElement e)) (q : p ≡ planeBytes W H) (X : 
 -- ---- dilation n times
 
 pub dilated-on : (W H : ℕ) (B : List Point) (n : ℕ) (X : Point → Bool) → OnFrame W H X → OnFrame W H (dilated W H B n X)
-unfolding dilated
-dilated-on W H B zero X on = on
-dilated-on W H B (suc n) X on = clip-on W H (dilate B (dilated W H B n X))
+dilated-on W H B n X on = turns-on W H (replicate n B) X on
 
 pub dilated-start : (W H p : ℕ) (B : List Point) (X : Point → Bool) (w u : List ℕ) → First W H p X w u → First W H p (dilated W H B 0 X) w u
-unfolding dilated
+unfolding inTurn
 dilated-start W H p B X w u a = a
 
 pub dilated-more : (W H p : ℕ) (B : List Point) (i : ℕ) (X : Point → Bool) (w u v : List ℕ) → p ≡ planeBytes W H → OnFrame W H X
     → First W H p (dilated W H B i X) w u → First W H p (clip W H (dilate B (imageSet W H u))) u v → First W H p (dilated W H B (i + 1) X) w v
-unfolding dilated
+unfolding inTurn
 dilated-more W H p B i X w u v q on a b =
     first-next a (first-as (ap (λ (Z : Point → Bool). pack W H (clip W H (dilate B Z))) (first-image q (dilated-on W H B i X on) a)
     ∙ ap (λ (k : ℕ). pack W H (dilated W H B k X)) (sym (add-one i))) b)
 
 -- of nothing nothing
 pub dilated-empty : (W H : ℕ) (B : List Point) (n : ℕ) (X : Point → Bool) → Empty X → Empty (dilated W H B n X)
-unfolding dilated clip
+unfolding inTurn clip
 dilated-empty W H B zero X f z t = f z t
 dilated-empty W H B (suc n) X f z t =
     dilate-empty B (dilated W H B n X) (dilated-empty W H B n X f) z (and-r (onFrame W H z) (dilate B (dilated W H B n X) z) t)
 
-pub dilated-rest : (W H p : ℕ) (B : List Point) (n : ℕ) (X : Point → Bool) (w u : List ℕ) → p ≡ planeBytes W H → OnFrame W H X → p ≤ length u
-    → First W H p X w u → someOf (λ b. not (eqb b 0)) (take p u) ≡ false → First W H p (dilated W H B n X) w u
-dilated-rest W H p B n X w u q on l a z =
-    let f = empty-pack W H X on (sym (a .first) ∙ first-zeros q l a z) in
-    first-as (pack-empty W H X f ∙ sym (pack-empty W H (dilated W H B n X) (dilated-empty W H B n X f))) a
+-- a first plane without a 1: its set is empty
+pub first-none : (W H p : ℕ) (X : Point → Bool) (w u : List ℕ) → p ≡ planeBytes W H → OnFrame W H X → p ≤ length u → First W H p X w u
+    → someOf (λ b. not (eqb b 0)) (take p u) ≡ false → Empty X
+first-none W H p X w u q on l a z = empty-pack W H X on (sym (a .first) ∙ first-zeros q l a z)
 
--- nothing is clipped where no step leaves the frame
-pub dilated-is : (W H : ℕ) (B : List Point) (X : Point → Bool) (n : ℕ) → ((i : ℕ) → i ≤ n → OnFrame W H (dilate (times B i) X))
-    → dilated W H B n X ≡ dilate (times B n) X
-unfolding dilated times
-dilated-is W H B X zero on = sym (dilate-zero B X)
-dilated-is W H B X (suc n) on =
-    ap (λ (Z : Point → Bool). clip W H (dilate B Z)) (dilated-is W H B X n (λ i h. on i (omega arith)))
-    ∙ ap (clip W H) (sym (dilate-sum (times B n) B X)) ∙ clip-is W H (dilate (times B (suc n)) X) (on (suc n) (le-refl (suc n)))
+pub dilated-rest : (W H p : ℕ) (B : List Point) (n : ℕ) (X : Point → Bool) (w u : List ℕ) → Empty X → First W H p X w u → First W H p (dilated W H B n X) w u
+dilated-rest W H p B n X w u f a = first-as (pack-empty W H X f ∙ sym (pack-empty W H (dilated W H B n X) (dilated-empty W H B n X f))) a
+
+-- what fell off before, or falls off now
+pub fallen-more : (W H p e i : ℕ) (el : T (isElement e)) (X : Point → Bool) (w u : List ℕ) (c d : Bool) → p ≡ planeBytes W H → OnFrame W H X
+    → First W H p (dilated W H (offsets e) i X) w u → c ≡ fallsOff W H (times (offsets e) i) X → d ≡ fallsOff W H (offsets e) (imageSet W H u)
+    → (c || d) ≡ fallsOff W H (times (offsets e) (i + 1)) X
+fallen-more W H p e i el X w u c d q on a ec ed =
+    let B = offsets e in
+    ap₂ _||_ ec (ed ∙ ap (fallsOff W H B) (first-image q (dilated-on W H B i X on) a))
+    ∙ sym (times-fall W H B (element e el .centred) X on i) ∙ ap (λ (k : ℕ). fallsOff W H (times B k) X) (sym (add-one i))
 
 -- X(n) dilated up to n times stays on the frame
-pub folded-first : (W H p e n m : ℕ) (el : T (isElement e)) (X : Point → Bool) (w u v : List ℕ) → m ≤ n → p ≡ planeBytes W H → OnFrame W H X
+pub folded-stays : (W H e n m : ℕ) (el : T (isElement e)) (X : Point → Bool) → m ≤ n → OnFrame W H X
+    → fallsOff W H (times (offsets e) m) (erode (times (offsets e) n) X) ≡ false
+folded-stays W H e n m el X h on =
+    on-falls W H (times (offsets e) m) (erode (times (offsets e) n) X) (opened-on W H (offsets e) (element e el) X on n m h)
+
+-- so that nothing is clipped
+pub folded-first : (W H p e n m : ℕ) (el : T (isElement e)) (X : Point → Bool) (w u v : List ℕ) → p ≡ planeBytes W H → OnFrame W H X
+    → fallsOff W H (times (offsets e) m) (erode (times (offsets e) n) X) ≡ false
     → First W H p (erode (times (offsets e) n) X) w u → First W H p (dilated W H (offsets e) m (imageSet W H u)) u v
     → First W H p (dilate (times (offsets e) m) (erode (times (offsets e) n) X)) w v
-folded-first W H p e n m el X w u v h q on a b =
+folded-first W H p e n m el X w u v q on stays a b =
     let B = offsets e in
     let k = element e el in
-    let Y = erode (times B n) X in
-    let is = dilated-is W H B Y m (λ i l. opened-on W H B k X on n i (omega arith)) in
-    first-next a (first-as (ap (pack W H) (ap (dilated W H B m) (first-image q (eroded-on W H B k X on n) a) ∙ is)) b)
+    let o = eroded-on W H B k X on n in
+    first-next a (first-as (ap (pack W H) (ap (dilated W H B m) (first-image q o a) ∙ times-whole W H B (k .centred) (erode (times B n) X) o m stays)) b)
 
 -- ---- in and out
 

@@ -2,12 +2,12 @@
 use mathlib.Core.Bool.{Bool}
 use mathlib.Core.List.{List, _++_}
 use mathlib.Core.Path.{_≡_}
-use Prim.Native.Nat.{_*_, _+_, _/_, _≤_, suc, zero, ℕ}
+use Prim.Native.Nat.{_*_, _+_, _/_, _≤_, ℕ}
 use lib.Dec.{T}
 use lib.ListN.{drop, length, replicate, take}
-use Rattle.morphology.specs.Image.{clip, isClean, onesOf, pack, planeBytes}
+use Rattle.morphology.specs.Image.{isClean, onesOf, pack, planeBytes}
+use Rattle.morphology.specs.InTurn.{inTurn}
 use Rattle.morphology.specs.Labels.{area}
-use Rattle.morphology.specs.Morphology.{dilate}
 use Rattle.morphology.specs.Operations.{cleared}
 use Rattle.morphology.specs.Point.{Point}
 use Rattle.raster.specs.Frames.{Frame}
@@ -36,9 +36,8 @@ pub record Wrote (W H : ℕ) (S : Point → Bool) (n : ℕ) (out work work′ : 
   pub left : work′ ≡ cleared W H work
 
 -- dilated n times, clipped at the frame each time
-unfoldable pub dilated : ℕ → ℕ → List Point → ℕ → (Point → Bool) → (Point → Bool)
-dilated W H B zero X = X
-dilated W H B (suc n) X = clip W H (dilate B (dilated W H B n X))
+abbrev pub dilated : ℕ → ℕ → List Point → ℕ → (Point → Bool) → (Point → Bool)
+dilated W H B n X = inTurn W H (replicate n B) X
 
 -- an image and buffers that the rows 1, 3 and 4 let pass
 pub record Ready (w h : ℕ) (s o k : List ℕ) : Type 0 where

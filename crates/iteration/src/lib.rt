@@ -5,6 +5,7 @@ ghost use Prim.Native.Nat.{_*_, _<_, _≤_, _^_};
 ghost use lib.Dec.{T};
 ghost use lib.ListN.{length, replicate, take, drop};
 ghost use Rattle.morphology.specs.Element.{offsets, isElement};
+ghost use Rattle.morphology.specs.Falls.{fallsOff};
 ghost use Rattle.morphology.specs.Image.{imageSet, isClean, clip};
 ghost use Rattle.morphology.specs.Morphology.{erode as erodeSet, dilate as dilateSet, times};
 ghost use Rattle.iteration.specs.Steps.{Sheet, First, HandedOut, dilated};
@@ -13,6 +14,12 @@ ghost use Rattle.iteration.specs.Steps.{Sheet, First, HandedOut, dilated
 pub enum Written {
     Refused(u8),
     Area(u32),
+}
+
+// The area of an image that was written, and whether a point of a dilation fell off on the way to it.
+pub struct Inked {
+    pub area: u32,
+    pub clipped: bool,
 }
 
 // The first plane eroded in place, by way of the second.
@@ -24,13 +31,15 @@ fn erode_step(w: usize, h: usize, r: usize, p: usize, element: u32, work: &mut [
     raster::copy_down(work, p, p);
 }
 
-// The first plane dilated in place, by way of the second, and clipped at the frame.
-pub fn dilate_step(w: usize, h: usize, r: usize, p: usize, element: u32, work: &mut [u8])
+// The first plane dilated in place, by way of the second, and clipped at the frame. Answers whether a point of the dilation fell off.
+pub fn dilate_step(w: usize, h: usize, r: usize, p: usize, element: u32, work: &mut [u8]) -> bool
     requires { ⌜ Sheet w h r p × (2 * p ≤ length (now work)) × T (isElement element) × T (isClean w h (now work)) ⌝ }
-    ensures { λ _. ⌜ First w h p (clip w h (dilateSet (offsets element) (imageSet w h (now (work .entry))))) (now (work .entry)) (now (work .exit)) ⌝ }
+    ensures plane { λ _. ⌜ First w h p (clip w h (dilateSet (offsets element) (imageSet w h (now (work .entry))))) (now (work .entry)) (now (work .exit)) ⌝ }
+    ensures clipped { λ c. ⌜ c ≡ fallsOff w h (offsets element) (imageSet w h (now (work .entry))) ⌝ }
 {
-    planes::dilate_plane(w, h, r, p, element, work);
+    let clipped = planes::dilate_plane(w, h, r, p, element, work);
     raster::copy_down(work, p, p);
+    clipped
 }
 
 // The first plane eroded n times in place; no more once it is empty.
@@ -48,19 +57,30 @@ pub fn erode_times(w: usize, h: usize, r: usize, p: usize, element: u32, n: u32,
     }
 }
 
-// The first plane dilated n times in place; not at all where it is empty.
-pub fn dilate_times(w: usize, h: usize, r: usize, p: usize, element: u32, n: u32, work: &mut [u8])
+// The first plane dilated n times in place; not at all where it is empty. Answers whether a point fell off in one of them: whether the n-fold element makes one fall off.
+pub fn dilate_times(
+    w: usize,
+    h: usize,
+    r: usize,
+    p: usize,
+    element: u32,
+    n: u32,
+    work: &mut [u8],
+) -> bool
     requires { ⌜ Sheet w h r p × (2 * p ≤ length (now work)) × T (isElement element) × T (isClean w h (now work)) ⌝ }
-    ensures { λ _. ⌜ First w h p (dilated w h (offsets element) n (imageSet w h (now (work .entry)))) (now (work .entry)) (now (work .exit)) ⌝ }
+    ensures plane { λ _. ⌜ First w h p (dilated w h (offsets element) n (imageSet w h (now (work .entry)))) (now (work .entry)) (now (work .exit)) ⌝ }
+    ensures clipped { λ c. ⌜ c ≡ fallsOff w h (times (offsets element) n) (imageSet w h (now (work .entry))) ⌝ }
 {
     if !raster::has_ink(&work[..p]) {
-        return;
+        return false;
     }
+    let mut clipped = false;
     let mut j: u32 = 0;
     while j < n {
-        dilate_step(w, h, r, p, element, work);
+        clipped = clipped | dilate_step(w, h, r, p, element, work);
         j = j + 1;
     }
+    clipped
 }
 
 // The three planes of work cleared.

@@ -10,7 +10,7 @@ use native.Mathlib.Numerals.{add-one}
 use native.Mathlib.Omega.{arith}
 use borrow.Author.Tests.{eq-eqb, le-leb, le-ltb, lt-leb, lt-ltb, ne-eqb}
 use lib.Dec.{T, eqb, eqb→eq, leb, leb→le, le→leb, ltb, ltb→lt}
-use lib.ListN.{getD, length, replicate, take}
+use lib.ListN.{getD, length, replicate}
 use lib.Seq.{ext-getD}
 use Rattle.morphology.specs.Labels.{place, raster}
 use Rattle.morphology.specs.Lists.{countOf, greatest, tabulate, upTo}
@@ -190,22 +190,22 @@ module _ (W H : ℕ) (B : List Point) (m : List ℕ) where
     counting-at : (x : ℕ) → x < W * H → getD c x 0 ≡ coverTo W H B m n i (place W x)
     counting-at x h = ap (λ (s : List ℕ). getD s x 0) q ∙ getD-place W H (coverTo W H B m n i) x h
 
-    module _ (r p a : ℕ) (work : List ℕ) (s : Shape W H r p B n a work) (t : AllFit W H B m) (h : i < W * H) where
+    module _ (r a : ℕ) (plane : List ℕ) (s : Shape W H r B n a plane) (t : AllFit W H B m) (h : i < W * H) where
       stays : getD m i 0 ≡ n + 1 → Stays W H B n i
       stays e = t .stays i n h (e ∙ add-one n)
 
       -- a point of the size: its counters can take one
-      pub counting-open : getD m i 0 ≡ n + 1 → Open true (below (W * H) (inkAt W H (take p work))) i a c
+      pub counting-open : getD m i 0 ≡ n + 1 → Open true (below (W * H) (inkAt W H plane)) i a c
       counting-open e = record {
-        within = subst (λ (k : ℕ). (j : ℕ) → T (below (W * H) (inkAt W H (take p work)) j) → (a ≤ i + j) × (i + j < a + k)) (sym counting-length)
-            (shape-within W H r p B n a work s i (stays e));
+        within = subst (λ (k : ℕ). (j : ℕ) → T (below (W * H) (inkAt W H plane) j) → (a ≤ i + j) × (i + j < a + k)) (sym counting-length)
+            (shape-within W H r B n a plane s i (stays e));
         free = λ k u.
-            let w = shape-within W H r p B n a work s i (stays e) k u in
+            let w = shape-within W H r B n a plane s i (stays e) k u in
             let l : i + k - a < W * H = omega (arith, w .0, w .1) in
             omega (arith, counting-at (i + k - a) l, cover-few n i (place W (i + k - a)), t .few);
       }
 
-      pub counting-next : (c′ : List ℕ) → CoverMoved true (λ x. eqb (getD m i 0) (n + 1) && hits (below (W * H) (inkAt W H (take p work))) i a x) c c′
+      pub counting-next : (c′ : List ℕ) → CoverMoved true (λ x. eqb (getD m i 0) (n + 1) && hits (below (W * H) (inkAt W H plane)) i a x) c c′
           → Counting W H B m n (i + 1) c′
       counting-next c′ v =
           ext-getD 0 c′ (raster W H (coverTo W H B m n (i + 1))) (v .size ∙ counting-length ∙ sym (length-raster W H (coverTo W H B m n (i + 1)))) (λ x l.
@@ -214,14 +214,14 @@ module _ (W H : ℕ) (B : List Point) (m : List ℕ) where
           v .places x lc ∙ by x hx (ℕ-discrete (getD m i 0) (n + 1)) ∙ sym (getD-place W H (coverTo W H B m n (i + 1)) x hx))
         where
           f : ℕ → Bool
-          f = below (W * H) (inkAt W H (take p work))
+          f = below (W * H) (inkAt W H plane)
 
           by : (x : ℕ) → x < W * H → Dec (getD m i 0 ≡ n + 1)
               → getD c x 0 + digit (eqb (getD m i 0) (n + 1) && hits f i a x) ≡ coverTo W H B m n (i + 1) (place W x)
           by x hx (yes e) =
               ap₂ (λ (k : ℕ) (b : Bool). k + digit (b && hits f i a x)) (counting-at x hx) (eq-eqb (getD m i 0) (n + 1) e)
               ∙ ap (λ (b : Bool). coverTo W H B m n i (place W x) + digit b)
-              (shape-hits W H r p B n a work s i x (stays e) ∙ sym (covers-dilate W H B m i n (place W x) (e ∙ add-one n)))
+              (shape-hits W H r B n a plane s i x (stays e) ∙ sym (covers-dilate W H B m i n (place W x) (e ∙ add-one n)))
               ∙ sym (cover-next n i h e (place W x))
           by x hx (no e) =
               let z : getD c x 0 + 0 ≡ getD c x 0 = omega arith in

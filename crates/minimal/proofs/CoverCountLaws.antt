@@ -16,7 +16,7 @@ use Rattle.morphology.specs.Labels.{place, places, pointsOf}
 use Rattle.morphology.specs.Lists.{countOf, everyOf, someOf, tabulate, upTo}
 use Rattle.morphology.specs.Minimal.{covers, dropAt, dropSize, dropSizes, isRedundant, minimalBelow}
 use Rattle.morphology.specs.Morphology.{dilate, times}
-use Rattle.morphology.specs.Point.{Point, _⊞_, origin, samePoint}
+use Rattle.morphology.specs.Point.{Point, _⊞_, samePoint}
 use Rattle.morphology.specs.Skeleton.{stamp}
 use Rattle.minimal.specs.Covers.{Stays, counts, cover, spread}
 use Rattle.morphology.proofs.CountLaws.{count-none, count-some, digit, digit-some}
@@ -25,9 +25,8 @@ use Rattle.morphology.proofs.FrameLaws.{OnFrame, on-in}
 use Rattle.morphology.proofs.ImageLaws.{row-mem}
 use Rattle.morphology.proofs.LabelLaws.{getD-place, length-raster, on-places}
 use Rattle.morphology.proofs.MinimalLaws.{getD-dropped, minimal-sub, other}
-use Rattle.morphology.proofs.MorphologyLaws.{dilate-in, dilate-out}
+use Rattle.morphology.proofs.MorphologyLaws.{dilate-in, dilate-out, dilate-sub}
 use Rattle.morphology.proofs.PointLaws.{same-eq, same-refl}
-use Rattle.morphology.proofs.ReconstructLaws.{times-mono}
 use Rattle.morphology.proofs.TestLaws.{T-ext, all-in, all-out, and-in, and-r, any-in, any-out, decide, or-l, or-out, or-r}
 
 -- ---- counts of others
@@ -171,15 +170,10 @@ module _ (W H : ℕ) (B : List Point) where
 
   -- ---- the test by counters
 
-  -- on the way to size n nothing is clipped
-  pub spread-on : List·Memᴰ origin B → (n i k : ℕ) → Stays W H B n i → k ≤ n → OnFrame W H (spread W B k i)
-  spread-on ob n i k stay h = on-in W H (spread W B k i) frame
-    where
-      frame : (z : Point) → T (spread W B k i z) → T (onFrame W H z)
-      frame z t =
-          let r = dilate-out (times B k) (λ y. samePoint y (place W i)) z t in
-          subst (λ (y : Point). T (onFrame W H y)) (ap (λ (y : Point). y ⊞ r .1) (sym (same-eq (r .0) (place W i) (r .2))) ∙ sym (r .4))
-          (stay (r .1) (times-mono B ob k n h (r .3)))
+  -- a point that stays on the frame covers nothing off it
+  pub spread-on : (n i : ℕ) → Stays W H B n i → OnFrame W H (spread W B n i)
+  spread-on n i stay = on-in W H (spread W B n i) (dilate-sub (times B n) (λ y. samePoint y (place W i)) (onFrame W H) (λ x b t m.
+      subst (λ (y : Point). T (onFrame W H (y ⊞ b))) (sym (same-eq x (place W i) t)) (stay b m)))
 
   pub frame-place : (z : Point) → T (onFrame W H z) → (x : ℕ) × (x < W * H) × (z ≡ place W x)
   unfolding places

@@ -9,7 +9,7 @@ use native.Mathlib.Numerals.{add-one}
 use native.Mathlib.Omega.{arith}
 use borrow.Author.Tests.{eq-eqb, ne-eqb}
 use lib.Dec.{T, T-not, eqb, eqb→eq, leb, leb→le, le→leb}
-use lib.ListN.{getD, length, length-set, set, take}
+use lib.ListN.{getD, length, length-set, set}
 use lib.Seq.{ext-getD}
 use Rattle.morphology.specs.Labels.{place}
 use Rattle.morphology.specs.Lists.{greatest, upTo}
@@ -36,9 +36,9 @@ tame-sub W H B m m′ t f e = record {
   stays = λ i n h q. t .stays i n h (sub-label m′ m f i n q);
 }
 
-module _ (W H r p : ℕ) (B : List Point) (n a : ℕ) (work : List ℕ) (s : Shape W H r p B n a work) (m : List ℕ) (t : AllFit W H B m) (i : ℕ) (h : i < W * H) where
+module _ (W H r : ℕ) (B : List Point) (n a : ℕ) (plane : List ℕ) (s : Shape W H r B n a plane) (m : List ℕ) (t : AllFit W H B m) (i : ℕ) (h : i < W * H) where
   abbrev moved : ℕ → Bool
-  moved = below (W * H) (inkAt W H (take p work))
+  moved = below (W * H) (inkAt W H plane)
 
   stays : getD m i 0 ≡ n + 1 → Stays W H B n i
   stays e = t .stays i n h (e ∙ add-one n)
@@ -47,8 +47,8 @@ module _ (W H r p : ℕ) (B : List Point) (n a : ℕ) (work : List ℕ) (s : Sha
     length-counts : length c ≡ W * H
     length-counts = ap length q ∙ counts-length W H B m
 
-    pub step-within : getD m i 0 ≡ n + 1 → Within (below (W * H) (inkAt W H (take p work))) i a (length c)
-    step-within e = subst (λ (k : ℕ). (j : ℕ) → T (moved j) → (a ≤ i + j) × (i + j < a + k)) (sym length-counts) (shape-within W H r p B n a work s i (stays e))
+    pub step-within : getD m i 0 ≡ n + 1 → Within (below (W * H) (inkAt W H plane)) i a (length c)
+    step-within e = subst (λ (k : ℕ). (j : ℕ) → T (moved j) → (a ≤ i + j) × (i + j < a + k)) (sym length-counts) (shape-within W H r B n a plane s i (stays e))
 
     -- ---- the test
 
@@ -64,7 +64,7 @@ module _ (W H r p : ℕ) (B : List Point) (n a : ℕ) (work : List ℕ) (s : Sha
         by : (x : ℕ) → T (D x) ⊎ T (not (D x)) → T (test x)
         by x (inr u) = or-l (not (D x)) (leb 2 (getD c x 0)) u
         by x (inl u) =
-            let hit = subst T (sym (shape-hits W H r p B n a work s i x (stays e))) u in
+            let hit = subst T (sym (shape-hits W H r B n a plane s i x (stays e))) u in
             let l = leb→le i (x + a) (and-l (leb i (x + a)) (moved (x + a - i)) hit) in
             let z : i + (x + a - i) - a ≡ x = omega arith in
             or-r (not (D x)) (leb 2 (getD c x 0))
@@ -72,10 +72,10 @@ module _ (W H r p : ℕ) (B : List Point) (n a : ℕ) (work : List ℕ) (s : Sha
 
     twice-out : getD m i 0 ≡ n + 1 → T (allTwice W H B n i c) → Twice moved i a c
     twice-out e w k u =
-        let g = shape-within W H r p B n a work s i (stays e) k u in
+        let g = shape-within W H r B n a plane s i (stays e) k u in
         let x = i + k - a in
         let l : i + k - a < W * H = omega (arith, g .0, g .1) in
-        let d = subst T (sym (hits-at moved i a k (g .0)) ∙ shape-hits W H r p B n a work s i x (stays e)) u in
+        let d = subst T (sym (hits-at moved i a k (g .0)) ∙ shape-hits W H r B n a plane s i x (stays e)) u in
         by x d (or-out (not (D x)) (leb 2 (getD c x 0)) (all-out (λ y. not (D y) || leb 2 (getD c y 0)) w (in-upTo (W * H) x l)))
       where
         D : ℕ → Bool
@@ -98,7 +98,7 @@ module _ (W H r p : ℕ) (B : List Point) (n a : ℕ) (work : List ℕ) (s : Sha
       pub counters : c′ ≡ counts W H B m′
       pub size : length m′ ≡ length m
 
-    pub step-next : (m′ c′ : List ℕ) → StepDone W H n a i (take p work) m c m′ c′ → Next m′ c′
+    pub step-next : (m′ c′ : List ℕ) → StepDone W H n a i plane m c m′ c′ → Next m′ c′
     step-next m′ c′ d = go (d .gone) refl
       where
         at : (x : ℕ) → x < W * H → getD c′ x 0 ≡ getD c x 0 - cond (d .gone && hits moved i a x) 1 0
@@ -116,7 +116,7 @@ module _ (W H r p : ℕ) (B : List Point) (n a : ℕ) (work : List ℕ) (s : Sha
               labels = k ∙ sym (drops ∙ ap₂ (λ (x z : Bool). cond (x && z) (set m i 0) m) (eq-eqb (getD m i 0) (suc n) v) (twice-in (y .0) (y .1)));
               counters = ext-getD 0 c′ (counts W H B (set m i 0)) (size ∙ sym (counts-length W H B (set m i 0))) (λ x l.
                   let hx : x < W * H = subst (λ (j : ℕ). x < j) size l in
-                  at x hx ∙ ap₂ (λ (b z : Bool). getD c x 0 - cond (b && z) 1 0) e (shape-hits W H r p B n a work s i x (stays (y .0)))
+                  at x hx ∙ ap₂ (λ (b z : Bool). getD c x 0 - cond (b && z) 1 0) e (shape-hits W H r B n a plane s i x (stays (y .0)))
                   ∙ ap (λ (l : List ℕ). getD l x 0 - cond (spread W B n i (place W x)) 1 0) q ∙ sym (counters-drop W H B m i n x h hx v))
                   ∙ ap (counts W H B) (sym k);
               size = ap length k ∙ length-set m i 0;

@@ -12,15 +12,16 @@ use Rattle.morphology.specs.Lists.{countOf, greatest, upTo}
 use Rattle.morphology.specs.Minimal.{covers}
 use Rattle.morphology.specs.Point.{Point}
 use Rattle.morphology.specs.Refusals.{maxSide}
+use Rattle.raster.specs.Frames.{Frame}
 use Rattle.iteration.specs.Steps.{Sheet}
 use Rattle.minimal.specs.Covers.{AllStay, Stays, spread}
 
--- the first plane of work is what a point of size n at place a covers
-pub record Shape (W H r p : ℕ) (B : List Point) (n a : ℕ) (work : List ℕ) : Type 0 where
-  pub sheet : Sheet W H r p
-  pub planes : 2 * p ≤ length work
-  pub clean : T (isClean W H work)
-  pub set : imageSet W H work ≡ spread W B n a
+-- a plane is what a point of size n at place a covers, and that stays on the frame
+pub record Shape (W H r : ℕ) (B : List Point) (n a : ℕ) (s : List ℕ) : Type 0 where
+  pub frame : Frame W H r
+  pub bytes : H * r ≤ length s
+  pub clean : T (isClean W H s)
+  pub set : imageSet W H s ≡ spread W B n a
   pub stays : Stays W H B n a
 
 -- a map whose points stay on the frame, and counters for it

@@ -6,6 +6,7 @@ mod sizes;
 mod walks;
 
 ghost use mathlib.Core.Path.{_≡_};
+ghost use mathlib.Core.Bool.{false};
 ghost use mathlib.Core.List.{[], _∷_};
 ghost use Rattle.morphology.specs.Answers.{outcome};
 ghost use Rattle.morphology.specs.Operations.{minimised, minimiseRows};
@@ -16,6 +17,12 @@ ghost use Rattle.minimal.specs.Minimised.{answerOf, Passed, Shortened};
 pub enum Minimised {
     Refused(u8),
     Points(u32),
+}
+
+// What minimisation leaves: the points, and whether a point of a shape fell off on the way.
+struct Shorter {
+    points: u32,
+    clipped: bool,
 }
 
 // Row 3: counters are not W times H.
@@ -47,7 +54,7 @@ fn minimise_refusal(
     refusals::row(5, wild)
 }
 
-// Labels that are not refused, minimised. Answers the points left.
+// Labels that are not refused, minimised. Answers the points left, and whether a shape was clipped: none is.
 fn minimise_into(
     w: usize,
     h: usize,
@@ -55,19 +62,25 @@ fn minimise_into(
     labels: &mut [u8],
     work: &mut [u8],
     counters: &mut [u16],
-) -> u32
+) -> Shorter
     requires { ⌜ Passed w h element (now labels) (now work) (now counters) ⌝ }
-    ensures { λ n. ⌜ Shortened w h element (now (labels .entry)) (now (work .entry)) n (now (labels .exit)) (now (work .exit)) (now (counters .exit)) ⌝ }
+    ensures done { λ s. ⌜ Shortened w h element (now (labels .entry)) (now (work .entry))
+        (s .points) (now (labels .exit)) (now (work .exit)) (now (counters .exit)) ⌝ }
+    ensures clipped { λ s. ⌜ s .clipped ≡ false ⌝ }
 {
     let r = (w + 7) / 8;
     let p = h * r;
     let a = sizes::tallest(&labels[..]);
     let top = labels[a] as usize;
-    sizes::count_up(w, h, r, p, element, a, top, &labels[..], work, counters);
-    walks::walk(w, h, r, p, element, a, top, labels, work, counters);
+    let counted = sizes::count_up(w, h, r, p, element, a, top, &labels[..], work, counters);
+    let walked = walks::walk(w, h, r, p, element, a, top, labels, work, counters);
     sizes::clear(counters);
     iteration::clear_work(p, work);
-    sizes::points_of(&labels[..])
+    let points = sizes::points_of(&labels[..]);
+    Shorter {
+        points,
+        clipped: counted | walked,
+    }
 }
 
 // Minimisation: the points that other points cover are dropped from labels, by size and place.
@@ -86,6 +99,6 @@ pub fn minimise(
     if no != 0 {
         return Minimised::Refused(no);
     }
-    let points = minimise_into(w as usize, h as usize, element, labels, work, counters);
-    Minimised::Points(points)
+    let shorter = minimise_into(w as usize, h as usize, element, labels, work, counters);
+    Minimised::Points(shorter.points)
 }

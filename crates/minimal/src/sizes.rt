@@ -1,22 +1,20 @@
-// The covers of all points counted, size by size.
+// The shape of each size, and the covers of all points counted, size by size.
 use crate::bands;
 use crate::bands::Band;
 use crate::covers;
 use crate::places;
 ghost use mathlib.Core.Path.{_≡_};
-ghost use mathlib.Core.Bool.{true, cond, not, _&&_};
-ghost use Prim.Native.Nat.{_+_, _*_, _<_, _≤_, _^_};
+ghost use mathlib.Core.Bool.{true, false, cond, not, _&&_};
+ghost use Prim.Native.Nat.{_+_, _*_, _-_, _<_, _≤_, _^_};
 ghost use lib.Dec.{T, eqb};
 ghost use lib.ListN.{length, getD, replicate};
 ghost use Rattle.morphology.specs.Element.{isElement, offsets};
-ghost use Rattle.morphology.specs.Image.{imageSet, clip};
 ghost use Rattle.morphology.specs.Labels.{maxLabel, pointsOf};
 ghost use Rattle.morphology.specs.Lists.{greatest};
-ghost use Rattle.morphology.specs.Morphology.{dilate};
 ghost use Rattle.raster.specs.Frames.{Frame};
-ghost use Rattle.iteration.specs.Steps.{First};
+ghost use Rattle.iteration.specs.Steps.{Sheet, First};
 ghost use Rattle.minimal.specs.Bands.{CoverAt, inkAt};
-ghost use Rattle.minimal.specs.Covers.{single, counts};
+ghost use Rattle.minimal.specs.Covers.{single, Stays, counts};
 ghost use Rattle.minimal.specs.Moves.{below, hits, Open, CoverMoved};
 ghost use Rattle.minimal.specs.Sizes.{Shape, AllFit, Counting, WalkBegun, Left};
 
@@ -43,32 +41,29 @@ fn count_at(
     }
 }
 
-// Counts up the covers of all points of size n, and dilates the plane to the next size.
+// Counts up the covers of all points of size n, whose shape the plane is.
 fn count_size(
     w: usize,
     h: usize,
     r: usize,
-    p: usize,
     element: u32,
     a: usize,
     n: usize,
     labels: &[u8],
-    work: &mut [u8],
+    plane: &[u8],
     counters: &mut [u16],
 )
-    requires { ⌜ Shape w h r p (offsets element) n a (now work) × AllFit w h (offsets element) (now labels) × (n < maxLabel)
-        × Counting w h (offsets element) (now labels) n 0 (now counters) × T (isElement element) ⌝ }
-    ensures counters { λ _. ⌜ Counting w h (offsets element) (now (labels .entry)) (n + 1) 0 (now (counters .exit)) ⌝ }
-    ensures work { λ _. ⌜ First w h p (clip w h (dilate (offsets element) (imageSet w h (now (work .entry))))) (now (work .entry)) (now (work .exit)) ⌝ }
+    requires { ⌜ Shape w h r (offsets element) n a (now plane) × AllFit w h (offsets element) (now labels) × (n < maxLabel)
+        × Counting w h (offsets element) (now labels) n 0 (now counters) ⌝ }
+    ensures { λ _. ⌜ Counting w h (offsets element) (now (labels .entry)) (n + 1) 0 (now (counters .exit)) ⌝ }
 {
-    let band = bands::band_of(&work[..p], h, r);
+    let band = bands::band_of(plane, h, r);
     let v = (n + 1) as u8;
     let mut i = places::next_place(labels, v, 0);
     while i < labels.len() {
-        count_at(w, h, r, band, a, n, i, labels, &work[..p], counters);
+        count_at(w, h, r, band, a, n, i, labels, plane, counters);
         i = places::next_place(labels, v, i + 1);
     }
-    iteration::dilate_step(w, h, r, p, element, work);
 }
 
 // The first plane emptied but for the pixel of place a.
@@ -80,6 +75,29 @@ pub fn mark(w: usize, h: usize, r: usize, a: usize, work: &mut [u8])
     raster::fill(&mut work[..p], 0);
     let x = a % w;
     work[a / w * r + x / 8] = 128u8 >> ((x % 8) as u32);
+}
+
+// The shape of size n in the first plane, from that of size n - 1; that of size 0 is there already. Answers whether a point of it fell off: none does.
+pub fn reach_size(
+    w: usize,
+    h: usize,
+    r: usize,
+    p: usize,
+    element: u32,
+    a: usize,
+    n: usize,
+    work: &mut [u8],
+) -> bool
+    requires { ⌜ Sheet w h r p × (2 * p ≤ length (now work)) × T (isElement element)
+        × Shape w h r (offsets element) (n - 1) a (now work) × Stays w h (offsets element) n a ⌝ }
+    ensures shape { λ _. ⌜ Shape w h r (offsets element) n a (now (work .exit)) ⌝ }
+    ensures work { λ _. ⌜ Left p (now (work .entry)) (now (work .exit)) ⌝ }
+    ensures clipped { λ c. ⌜ c ≡ false ⌝ }
+{
+    if n == 0 {
+        return false;
+    }
+    iteration::dilate_step(w, h, r, p, element, work)
 }
 
 // The first place of the largest label.
@@ -125,7 +143,7 @@ pub fn points_of(labels: &[u8]) -> u32
     n
 }
 
-// Counts how often each place is covered, from the smallest size to the largest.
+// Counts how often each place is covered, from the smallest size to the largest. Answers whether a point of a shape fell off: none does.
 pub fn count_up(
     w: usize,
     h: usize,
@@ -137,16 +155,20 @@ pub fn count_up(
     labels: &[u8],
     work: &mut [u8],
     counters: &mut [u16],
-)
+) -> bool
     requires { ⌜ WalkBegun w h r p element a top (now labels) (now work) × (length (now counters) ≡ w * h) ⌝ }
     ensures counters { λ _. ⌜ now (counters .exit) ≡ counts w h (offsets element) (now (labels .entry)) ⌝ }
     ensures work { λ _. ⌜ Left p (now (work .entry)) (now (work .exit)) ⌝ }
+    ensures clipped { λ c. ⌜ c ≡ false ⌝ }
 {
     clear(counters);
     mark(w, h, r, a, work);
+    let mut clipped = false;
     let mut n: usize = 0;
     while n < top {
-        count_size(w, h, r, p, element, a, n, labels, work, counters);
+        clipped = clipped | reach_size(w, h, r, p, element, a, n, work);
+        count_size(w, h, r, element, a, n, labels, &work[..p], counters);
         n = n + 1;
     }
+    clipped
 }

@@ -5,15 +5,12 @@ use crate::covers;
 use crate::places;
 use crate::sizes;
 ghost use mathlib.Core.Path.{_≡_};
+ghost use mathlib.Core.Bool.{false};
 ghost use Prim.Native.Nat.{_+_, _*_, _<_};
 ghost use lib.ListN.{length, getD};
-ghost use lib.Dec.{T};
-ghost use Rattle.morphology.specs.Element.{isElement, offsets};
-ghost use Rattle.morphology.specs.Image.{imageSet, clip};
+ghost use Rattle.morphology.specs.Element.{offsets};
 ghost use Rattle.morphology.specs.Labels.{maxLabel};
 ghost use Rattle.morphology.specs.Minimal.{minimalLabels};
-ghost use Rattle.morphology.specs.Morphology.{dilate};
-ghost use Rattle.iteration.specs.Steps.{First};
 ghost use Rattle.minimal.specs.Bands.{CoverAt, inkAt};
 ghost use Rattle.minimal.specs.Covers.{counts};
 ghost use Rattle.minimal.specs.Moves.{below, Within};
@@ -47,35 +44,32 @@ fn step(
     covers::move_cover(false, plane, w, h, r, band, a, i, counters);
 }
 
-// Walks the points of size n, place by place, and dilates the plane to the next size.
+// Walks the points of size n, whose shape the plane is, place by place.
 fn walk_size(
     w: usize,
     h: usize,
     r: usize,
-    p: usize,
     element: u32,
     a: usize,
     n: usize,
     labels: &mut [u8],
-    work: &mut [u8],
+    plane: &[u8],
     counters: &mut [u16],
 )
-    requires { ⌜ Shape w h r p (offsets element) n a (now work) × AllFit w h (offsets element) (now labels) × (n < maxLabel)
-        × (now counters ≡ counts w h (offsets element) (now labels)) × T (isElement element) ⌝ }
-    ensures walk { λ _. ⌜ Walked w h (offsets element) n (now (labels .entry)) (now (labels .exit)) (now (counters .exit)) ⌝ }
-    ensures work { λ _. ⌜ First w h p (clip w h (dilate (offsets element) (imageSet w h (now (work .entry))))) (now (work .entry)) (now (work .exit)) ⌝ }
+    requires { ⌜ Shape w h r (offsets element) n a (now plane) × AllFit w h (offsets element) (now labels) × (n < maxLabel)
+        × (now counters ≡ counts w h (offsets element) (now labels)) ⌝ }
+    ensures { λ _. ⌜ Walked w h (offsets element) n (now (labels .entry)) (now (labels .exit)) (now (counters .exit)) ⌝ }
 {
-    let band = bands::band_of(&work[..p], h, r);
+    let band = bands::band_of(plane, h, r);
     let v = (n + 1) as u8;
     let mut i = places::next_place(&labels[..], v, 0);
     while i < labels.len() {
-        step(w, h, r, band, a, n, i, labels, &work[..p], counters);
+        step(w, h, r, band, a, n, i, labels, plane, counters);
         i = places::next_place(&labels[..], v, i + 1);
     }
-    iteration::dilate_step(w, h, r, p, element, work);
 }
 
-// Walks the sizes, from the smallest to the largest.
+// Walks the sizes, from the smallest to the largest. Answers whether a point of a shape fell off: none does.
 pub fn walk(
     w: usize,
     h: usize,
@@ -87,15 +81,19 @@ pub fn walk(
     labels: &mut [u8],
     work: &mut [u8],
     counters: &mut [u16],
-)
+) -> bool
     requires { ⌜ WalkBegun w h r p element a top (now labels) (now work) × (now counters ≡ counts w h (offsets element) (now labels)) ⌝ }
     ensures labels { λ _. ⌜ now (labels .exit) ≡ minimalLabels w h (offsets element) (now (labels .entry)) ⌝ }
     ensures work { λ _. ⌜ Left p (now (work .entry)) (now (work .exit)) ⌝ }
+    ensures clipped { λ c. ⌜ c ≡ false ⌝ }
 {
     sizes::mark(w, h, r, a, work);
+    let mut clipped = false;
     let mut n: usize = 0;
     while n < top {
-        walk_size(w, h, r, p, element, a, n, labels, work, counters);
+        clipped = clipped | sizes::reach_size(w, h, r, p, element, a, n, work);
+        walk_size(w, h, r, element, a, n, labels, &work[..p], counters);
         n = n + 1;
     }
+    clipped
 }

@@ -72,7 +72,7 @@ row-outside a n X x y rows f =
 
 -- ---- packed
 
-pub getD-pack : (W H : ℕ) (X : Point → Bool) (i : ℕ) → i < planeBytes W H
+getD-pack : (W H : ℕ) (X : Point → Bool) (i : ℕ) → i < planeBytes W H
     → getD (pack W H X) i 0 ≡ fromBits (λ x. X (at (pos x) (pos (i / stride W)))) (i % stride W * 8) 8
 unfolding pack
 getD-pack W H X i h =

@@ -1,26 +1,22 @@
--- Laws of `fallsOff`: what it says of a set on the frame, of none, and by the box of the element. The rows that a dilation reaches.
-use mathlib.Core.Bool.{Bool, _&&_, cond, false, not}
+-- Laws of `fallsOff`: what it says of a set on the frame, of none, and by the box of the element.
+use mathlib.Core.Bool.{Bool, _&&_, false, not}
 use mathlib.Core.List.{List, List·Memᴰ}
 use mathlib.Core.Logic.{_⊎_, inl, inr}
 use mathlib.Core.Path.{_∙_, _≡_, ap, subst, sym}
-use Prim.Native.Nat.{_+_, _-_, _<_, _≤_, suc, ℕ}
-use native.Mathlib.Omega.{arith}
-use borrow.Author.Tests.{le-ltb}
-use lib.Dec.{T}
-use lib.IntN.{_+ℤ_, negsuc, pos, ℤ}
-use Rattle.morphology.specs.Extent.{above, below, boxed, extent}
+use Prim.Native.Nat.{ℕ}
+use lib.Dec.{T, T-not}
+use Rattle.morphology.specs.Extent.{boxed}
 use Rattle.morphology.specs.Falls.{fallsOff}
 use Rattle.morphology.specs.Image.{clip, onFrame}
 use Rattle.morphology.specs.Labels.{places}
 use Rattle.morphology.specs.Lists.{everyOf, someOf}
 use Rattle.morphology.specs.Morphology.{dilate, erode}
 use Rattle.morphology.specs.Point.{Point, _⊞_, origin}
-use Rattle.morphology.proofs.BandLaws.{InRows}
-use Rattle.morphology.proofs.ExtentLaws.{box-exact, extent-le}
-use Rattle.morphology.proofs.FrameLaws.{OnFrame, on-in}
+use Rattle.morphology.proofs.ExtentLaws.{box-exact}
+use Rattle.morphology.proofs.FrameLaws.{OnFrame, on-in, on-out}
 use Rattle.morphology.proofs.ImageLaws.{clip-is}
 use Rattle.morphology.proofs.LabelLaws.{on-places}
-use Rattle.morphology.proofs.MorphologyLaws.{_⊆_, dilate-out, dilate-sub, eroded-suc, eroded-zero}
+use Rattle.morphology.proofs.MorphologyLaws.{_⊆_, dilate-in, dilate-out, dilate-sub, eroded-suc, eroded-zero}
 use Rattle.morphology.proofs.PlaneLaws.{Empty}
 use Rattle.morphology.proofs.RefusalLaws.{false-of}
 use Rattle.morphology.proofs.TestLaws.{and-in, and-l, and-r, any-in, any-out, decide, some-not}
@@ -39,13 +35,24 @@ module _ (W H : ℕ) (B : List Point) (X : Point → Bool) where
   pub falls-empty : Empty X → fallsOff W H B X ≡ false
   falls-empty e = false-of (fallsOff W H B X) (λ t. let r = falls-some t in e (r .0) (r .2))
 
+  -- a point of the dilation
+  pub falls-point : T (fallsOff W H B X) → (z : Point) × T (dilate B X z) × T (not (onFrame W H z))
+  falls-point t = let r = falls-some t in (r .0 ⊞ r .1, dilate-in B X (r .0) (r .1) (r .2) (r .3), r .4)
+
+  -- a dilation on the frame loses nothing
+  pub on-falls : OnFrame W H (dilate B X) → fallsOff W H B X ≡ false
+  on-falls on = false-of (fallsOff W H B X) (λ t. let r = falls-point t in T-not (onFrame W H (r .0)) (r .2) (on-out W H (dilate B X) on (r .0) (r .1)))
+
   module _ (on : OnFrame W H X) where
-    -- the converse, for a set on the frame
+    -- the converse of both, for a set on the frame
     pub falls-at : (z b : Point) → T (X z) → List·Memᴰ b B → T (not (onFrame W H (z ⊞ b))) → T (fallsOff W H B X)
     unfolding fallsOff
     falls-at z b t m f =
         any-in (λ p. X p && someOf (λ b. not (onFrame W H (p ⊞ b))) B) (on-places W H X on z t)
         (and-in (X z) (someOf (λ b. not (onFrame W H (z ⊞ b))) B) t (any-in (λ b. not (onFrame W H (z ⊞ b))) m f))
+
+    pub point-falls : (z : Point) → T (dilate B X z) → T (not (onFrame W H z)) → T (fallsOff W H B X)
+    point-falls z t f = let r = dilate-out B X z t in falls-at (r .0) (r .1) (r .2) (r .3) (subst (λ (p : Point). T (not (onFrame W H p))) (r .4) f)
 
     -- where nothing falls off, the dilation lies on the frame
     pub falls-not : fallsOff W H B X ≡ false → dilate B X ⊆ onFrame W H
@@ -78,28 +85,3 @@ falls-boxed W H B X ob = (λ i. someOf (λ p. X p && line p i) (places W H))
   where
     line : (p : Point) → someOf (λ b. not (onFrame W H (p ⊞ b))) B ≡ not (boxed W H B 1 p)
     line p = some-not (λ b. onFrame W H (p ⊞ b)) B ∙ ap not (box-one W H B ob p)
-
--- ---- the rows that a dilation reaches
-
--- a set in the rows from a up to b, dilated
-pub dilate-rows : (B : List Point) (a b up down : ℕ) (X : Point → Bool) → extent (λ c. below (c .y)) B ≤ up → extent (λ c. above (c .y)) B ≤ down → up ≤ a
-    → InRows a (b - a) X → InRows (a - up) (b + down - (a - up)) (dilate B X)
-unfolding _⊞_
-dilate-rows B a b up down X hu hd h rows z t =
-    let d = dilate-out B X z t in
-    let c = d .1 in
-    let k = rows (d .0) (d .2) in
-    let lo = extent-le (λ c. below (c .y)) B (d .3) in
-    let hi = extent-le (λ c. above (c .y)) B (d .3) in
-    let q = go (k .0) (c .y) (k .1) (omega arith) (omega arith) in
-    (q .0, q .1, ap (λ (p : Point). p .y) (d .4) ∙ ap (λ (u : ℤ). u +ℤ c .y) (k .2) ∙ q .2)
-  where
-    go : (k : ℕ) (c : ℤ) → k < b - a → below c ≤ up → above c ≤ down
-        → (y : ℕ) × (y < b + down - (a - up)) × (pos (a + k) +ℤ c ≡ pos (a - up + y))
-    go k (pos c) l u v = let e : a + k + c ≡ a - up + (up + k + c) = omega arith in (up + k + c, omega arith, ap pos e)
-    go k (negsuc c) l u v =
-        let e : a + k - suc c ≡ a - up + (up + k - suc c) = omega arith in (
-          up + k - suc c,
-          omega arith,
-          ap (λ (t : Bool). cond t (negsuc (suc c - suc (a + k))) (pos (a + k - suc c))) (le-ltb (a + k) (suc c) (omega arith)) ∙ ap pos e,
-        )

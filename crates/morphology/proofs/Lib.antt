@@ -19,6 +19,7 @@ pub mod CountLaws
 pub mod PlaneLaws
 pub mod BandLaws
 pub mod FallsLaws
+pub mod InTurnLaws
 pub mod DecomposeLaws
 pub mod ReconstructLaws
 pub mod FoldTurns

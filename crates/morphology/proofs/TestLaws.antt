@@ -40,6 +40,11 @@ pub or-out : (a b : Bool) → T (a || b) → T a ⊎ T b
 or-out true b t = inl tt
 or-out false b t = inr t
 
+-- an or that is false
+pub neither : (a b : Bool) → (a || b) ≡ false → (a ≡ false) × (b ≡ false)
+neither true b e = absurd (subst T e tt)
+neither false b e = (refl, e)
+
 pub not-and : (a b : Bool) → (not a || not b) ≡ not (a && b)
 not-and true b = refl
 not-and false b = refl

@@ -13,6 +13,7 @@ pub mod Answers
 pub mod Refusals
 pub mod Operations
 pub mod Falls
+pub mod InTurn
 pub mod Extent
 pub mod Partial
 pub mod Cases

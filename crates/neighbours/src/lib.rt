@@ -1,7 +1,7 @@
 // What an element asks of the pixels around each pixel, joined to a plane by strips of rows.
 ghost use mathlib.Core.Path.{_≡_};
 ghost use mathlib.Core.Bool.{not, _&&_, cond, false};
-ghost use Prim.Native.Nat.{_+_, _-_, _*_, _<_, _≤_, min};
+ghost use Prim.Native.Nat.{_+_, _*_, _<_, _≤_, min};
 ghost use lib.Dec.{eqb};
 ghost use lib.ListN.{length};
 ghost use Rattle.raster.specs.Limits.{maxFrame, maxStride};
@@ -25,16 +25,6 @@ fn reflect(dilating: bool, k: usize) -> usize
     k
 }
 
-// a less b, or 0.
-fn less(a: usize, b: usize) -> usize
-    ensures { λ r. ⌜ r ≡ a - b ⌝ }
-{
-    if a < b {
-        return 0;
-    }
-    a - b
-}
-
 fn lesser(a: usize, b: usize) -> usize
     ensures { λ r. ⌜ r ≡ min a b ⌝ }
 {
@@ -50,8 +40,8 @@ fn load_near(plane: &[u8], r: usize, h: usize, y: usize, n: usize, buf: &mut [u8
     ensures { λ _. ⌜ NearRows (now (plane .entry)) r h y n (now (buf .exit)) ⌝ }
 {
     raster::fill(buf, 0);
-    let blank = less(2, y);
-    let from = less(y, 2);
+    let blank = raster::less(2, y);
+    let from = raster::less(y, 2);
     let rows = lesser(y + n + 2, h) - from;
     let at = blank * r + 1;
     let a = from * r;

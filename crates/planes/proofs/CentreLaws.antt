@@ -146,19 +146,27 @@ begun-copy t p r h e n old new en o m = record {
       ∙ origin-less t e (nearBit old r h) x y o;
 }
 
--- a plane begun, joined and cut off
-pub plane-done : (t : Bool) (p r h w e rest : ℕ) (v₀ v₁ v₂ v₃ : List ℕ) → h * r ≤ p → Begun t p r h e rest v₀ v₁
+-- a plane begun and joined
+pub plane-joined : (t : Bool) (p r h e rest : ℕ) (v₀ v₁ v₂ : List ℕ) → h * r ≤ p → Begun t p r h e rest v₀ v₁
     → PlaneJoined t p r h v₁ v₂ (λ y x. neighbours t rest (nearBit v₁ r h) x y)
-    → PlaneIs p r h v₂ v₃ (λ y x. rowBit v₂ (8 * (p + y * r) + x) && ltb x w)
-    → PlaneIs p r h v₀ v₃ (λ y x. neighbours t e (nearBit v₀ r h) x y && ltb x w)
-plane-done t p r h w e rest v₀ v₁ v₂ v₃ hp a b c = record {
-  size = c .size ∙ b .size ∙ a .size;
-  before = λ j z. c .before j z ∙ b .before j z ∙ a .before j z;
-  after = λ j z. c .after j z ∙ b .after j z ∙ a .after j z;
+    → PlaneIs p r h v₀ v₂ (λ y x. neighbours t e (nearBit v₀ r h) x y)
+plane-joined t p r h e rest v₀ v₁ v₂ hp a b = record {
+  size = b .size ∙ a .size;
+  before = λ j z. b .before j z ∙ a .before j z;
+  after = λ j z. b .after j z ∙ a .after j z;
   pixels = λ y x l k.
-      c .pixels y x l k
-      ∙ ap (λ (n : Bool). n && ltb x w)
-      (b .pixels y x l k
+      b .pixels y x l k
       ∙ (λ i. join t (rowBit v₁ (8 * (p + y * r) + x)) (neighbours t rest (λ X Y. near-same v₁ v₀ r h (λ j z. a .before j (omega arith)) X Y i) x y))
-      ∙ a .pixels y x l k);
+      ∙ a .pixels y x l k;
+}
+
+-- and its padding cleared
+pub plane-cleared : (w : ℕ) {p r h : ℕ} {g : ℕ → ℕ → Bool} {v₀ v₂ v₃ : List ℕ} → PlaneIs p r h v₀ v₂ g
+    → PlaneIs p r h v₂ v₃ (λ y x. rowBit v₂ (8 * (p + y * r) + x) && ltb x w)
+    → PlaneIs p r h v₀ v₃ (λ y x. g y x && ltb x w)
+plane-cleared w b c = record {
+  size = c .size ∙ b .size;
+  before = λ j z. c .before j z ∙ b .before j z;
+  after = λ j z. c .after j z ∙ b .after j z;
+  pixels = λ y x l k. c .pixels y x l k ∙ ap (λ (n : Bool). n && ltb x w) (b .pixels y x l k);
 }

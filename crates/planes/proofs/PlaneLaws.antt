@@ -10,12 +10,14 @@ use lib.IntN.{pos}
 use lib.ListN.{drop, getD, length, length-drop, take}
 use lib.Seq.{take-all}
 use Rattle.morphology.specs.Element.{bit, offsets}
+use Rattle.morphology.specs.Falls.{fallsOff}
 use Rattle.morphology.specs.Image.{clip, imageSet, isClean, pack}
 use Rattle.morphology.specs.Morphology.{dilate, erode, opening}
 use Rattle.morphology.specs.Point.{Point, at}
 use Rattle.morphology.proofs.ElementLaws.{origin-in}
+use Rattle.morphology.proofs.FallsLaws.{falls-clip, on-falls}
 use Rattle.morphology.proofs.FrameLaws.{OnFrame}
-use Rattle.morphology.proofs.ImageLaws.{Agree, agree-front, clean-agree, clean-pack, clip-is, image-agree, image-on, image-pack, length-pack}
+use Rattle.morphology.proofs.ImageLaws.{Agree, agree-front, clean-agree, clean-pack, image-agree, image-on, image-pack, length-pack}
 use Rattle.morphology.proofs.MorphologyLaws.{erode-sub, open-sub}
 use Rattle.morphology.proofs.PlaneLaws.{on-sub}
 use Rattle.raster.specs.Rows.{PlaneIs, overwrite}
@@ -43,26 +45,33 @@ cut-swap true false false e = refl
 cut-swap false true false e = refl
 cut-swap false false false e = refl
 
-pub plane-done : (t : Bool) (W H r p e : ℕ) (old new : List ℕ) → Frame W H r → p + H * r ≤ length old → T (isClean W H old)
-    → ((i : ℕ) → getD new i 0 < 256)
-    → PlaneIs p r H old new (λ y x. neighbours t e (nearBit old r H) x y && ltb x W)
-    → new ≡ overwrite p (pack W H (clip W H (morphed t (offsets e) (imageSet W H old)))) old
-unfolding clip
-plane-done t W H r p e old new f h clean bytes m =
-    let S = imageSet W H old in
-    plane-packed W H r p (clip W H (morphed t (offsets e) S)) (λ y x. neighbours t e (nearBit old r H) x y && ltb x W) old new f h bytes m (λ y x hy hx.
-    ap (λ (b : Bool). b && ltb x W) ((λ i. neighbours t e (λ X Y. near-image W H r old (f .row) clean X Y i) x y) ∙ neighbours-set t e S x y)
-    ∙ cut-swap (morphed t (offsets e) S (at (pos x) (pos y))) (ltb x W) (ltb y H) (lt-ltb y H hy))
+-- what is asked of the pixels near is the set
+module _ (t : Bool) (W H r e : ℕ) (old : List ℕ) (f : Frame W H r) (clean : T (isClean W H old)) where
+  near-set : (y x : ℕ) → neighbours t e (nearBit old r H) x y ≡ morphed t (offsets e) (imageSet W H old) (at (pos x) (pos y))
+  near-set y x = (λ i. neighbours t e (λ X Y. near-image W H r old (f .row) clean X Y i) x y) ∙ neighbours-set t e (imageSet W H old) x y
 
--- with the origin in the element, an eroded image lies on the frame
-pub erosion-done : (W H r p e : ℕ) (old new : List ℕ) → Frame W H r → H * r ≤ p → p + H * r ≤ length old → T (bit e 12) → T (isClean W H old)
-    → ((i : ℕ) → getD new i 0 < 256)
-    → PlaneIs p r H old new (λ y x. neighbours false e (nearBit old r H) x y && ltb x W)
-    → new ≡ overwrite p (pack W H (erode (offsets e) (imageSet W H old))) old
-erosion-done W H r p e old new f hp h o clean bytes m =
-    let S = imageSet W H old in
-    plane-done false W H r p e old new f h clean bytes m
-    ∙ ap (λ (X : Point → Bool). overwrite p (pack W H X) old) (clip-is W H (erode (offsets e) S) (erode-on W H e S o (image-on W H old)))
+  module _ (p : ℕ) (new : List ℕ) (h : p + H * r ≤ length old) (bytes : (i : ℕ) → getD new i 0 < 256) where
+    pub morph-done : PlaneIs p r H old new (λ y x. neighbours t e (nearBit old r H) x y)
+        → new ≡ overwrite p (pack W H (morphed t (offsets e) (imageSet W H old))) old
+    morph-done m =
+        plane-packed W H r p (morphed t (offsets e) (imageSet W H old)) (λ y x. neighbours t e (nearBit old r H) x y) old new f h bytes m
+        (λ y x hy hx. near-set y x)
+
+    pub clip-done : PlaneIs p r H old new (λ y x. neighbours t e (nearBit old r H) x y && ltb x W)
+        → new ≡ overwrite p (pack W H (clip W H (morphed t (offsets e) (imageSet W H old)))) old
+    unfolding clip
+    clip-done m =
+        let S = morphed t (offsets e) (imageSet W H old) in
+        plane-packed W H r p (clip W H S) (λ y x. neighbours t e (nearBit old r H) x y && ltb x W) old new f h bytes m (λ y x hy hx.
+        ap (λ (b : Bool). b && ltb x W) (near-set y x) ∙ cut-swap (S (at (pos x) (pos y))) (ltb x W) (ltb y H) (lt-ltb y H hy))
+
+-- a dilation of which nothing falls off
+pub dilation-done : (W H r p e : ℕ) (old new : List ℕ) → Frame W H r → p + H * r ≤ length old → T (isClean W H old) → ((i : ℕ) → getD new i 0 < 256)
+    → fallsOff W H (offsets e) (imageSet W H old) ≡ false → PlaneIs p r H old new (λ y x. neighbours true e (nearBit old r H) x y)
+    → new ≡ overwrite p (pack W H (clip W H (dilate (offsets e) (imageSet W H old)))) old
+dilation-done W H r p e old new f h clean bytes stays m =
+    morph-done true W H r e old f clean p new h bytes m
+    ∙ ap (λ (X : Point → Bool). overwrite p (pack W H X) old) (sym (falls-clip W H (offsets e) (imageSet W H old) (image-on W H old) stays))
 
 -- ---- an opening: the planes from the second on lent as one part
 
@@ -99,14 +108,25 @@ module _ (W H r p e : ℕ) (old v : List ℕ) (k : ℕ) (f : Frame W H r) (hp : 
   pub rest-clean : T (isClean W H (take k (drop p v)))
   rest-clean = clean-agree W H (pack W H E) (take k (drop p v)) (λ j l. sym (agree j l)) (clean-pack W H E on)
 
+  image : imageSet W H (take k (drop p v)) ≡ E
+  image = image-agree W H (take k (drop p v)) (pack W H E) agree ∙ image-pack W H E on
+
+  -- the opening lies in the image
+  opened : OnFrame W H (dilate (offsets e) E)
+  unfolding opening E S
+  opened = on-sub W H (dilate (offsets e) E) S (open-sub (offsets e) S) (image-on W H old)
+
+  -- so nothing falls off
+  pub open-stays : fallsOff W H (offsets e) (imageSet W H (take k (drop p v))) ≡ false
+  open-stays = ap (fallsOff W H (offsets e)) image ∙ on-falls W H (offsets e) E opened
+
   pub open-done : (ys : List ℕ) → ys ≡ overwrite p (pack W H (clip W H (dilate (offsets e) (imageSet W H (take k (drop p v)))))) (take k (drop p v))
       → take p v ++ (ys ++ drop k (drop p v)) ≡ overwrite (p + p) (pack W H (opening (offsets e) (imageSet W H old))) (overwrite p (pack W H (erode (offsets e) (imageSet W H old))) old)
   unfolding opening E S
   open-done ys ey =
       let B = offsets e in
       let q : clip W H (dilate B (imageSet W H (take k (drop p v)))) ≡ dilate B E =
-      ap (λ (Y : Point → Bool). clip W H (dilate B Y)) (image-agree W H (take k (drop p v)) (pack W H E) agree ∙ image-pack W H E on)
-      ∙ clip-is W H (dilate B E) (on-sub W H (dilate B E) S (open-sub B S) (image-on W H old)) in
+      falls-clip W H B (imageSet W H (take k (drop p v))) (image-on W H (take k (drop p v))) open-stays ∙ ap (dilate B) image in
       let z = length-pack W H (dilate B E) ∙ sym (frame-bytes f) in
       ap (λ (s : List ℕ). take p v ++ (s ++ drop k (drop p v))) (ey ∙ ap (λ (Y : Point → Bool). overwrite p (pack W H Y) (take k (drop p v))) q)
       ∙ overwrite-rest p k p (H * r) v (pack W H (dilate B E)) (omega (arith, long)) ek z (omega (arith, long))

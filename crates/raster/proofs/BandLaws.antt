@@ -22,7 +22,7 @@ zeros-out (b ∷ l) e = by (zeros-out l) (eqb b 0) refl
     by f true q = ap₂ (λ (x : ℕ) (y : List ℕ). x ∷ y) (eqb-true b 0 q) (f (sym (ap (λ (t : Bool). not t || someOf (λ b. not (eqb b 0)) l) q) ∙ e))
     by f false q = absurd (subst T (sym (ap (λ (t : Bool). not t || someOf (λ b. not (eqb b 0)) l) q) ∙ e) tt)
 
-zeros-in : (l : List ℕ) → ((i : ℕ) → i < length l → getD l i 0 ≡ 0) → someOf (λ b. not (eqb b 0)) l ≡ false
+pub zeros-in : (l : List ℕ) → ((i : ℕ) → i < length l → getD l i 0 ≡ 0) → someOf (λ b. not (eqb b 0)) l ≡ false
 zeros-in [] f = refl
 zeros-in (b ∷ l) f =
     ap₂ (λ (t u : Bool). not t || u) (eq-eqb b 0 (f 0 (zero-lt-suc (length l)))) (zeros-in l (λ i h. f (suc i) (omega arith)))

@@ -6,7 +6,7 @@ pub use counts::count_ones;
 ghost use mathlib.Core.Path.{_≡_};
 ghost use mathlib.Core.Bool.{_&&_, not};
 ghost use mathlib.Core.List.{_++_};
-ghost use Prim.Native.Nat.{_+_, _*_, _<_, _≤_};
+ghost use Prim.Native.Nat.{_+_, _-_, _*_, _<_, _≤_};
 ghost use lib.Dec.{leb, ltb, eqb};
 ghost use lib.ListN.{length, getD, replicate, take, drop};
 ghost use Rattle.morphology.specs.Image.{bitOf, stride, isClean};
@@ -18,6 +18,16 @@ ghost use Rattle.raster.specs.Rows.{rowBit, readBit, exchangeByte, joinB
 pub const MAX_FRAME: usize = 1024;
 
 pub const MAX_STRIDE: usize = MAX_FRAME / 8;
+
+// a less b, or 0.
+pub fn less(a: usize, b: usize) -> usize
+    ensures { λ r. ⌜ r ≡ a - b ⌝ }
+{
+    if a < b {
+        return 0;
+    }
+    a - b
+}
 
 // Two bytes joined pixel by pixel: by or in a dilation, by and in an erosion.
 fn join(dilating: bool, a: u8, b: u8) -> u8

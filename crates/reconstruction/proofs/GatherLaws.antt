@@ -1,22 +1,26 @@
 -- Labels reconstructed size by size.
-use mathlib.Core.Bool.{Bool, _||_}
+use mathlib.Core.Bool.{Bool, _||_, false}
 use mathlib.Core.List.{List, _++_}
 use mathlib.Core.Path.{_∙_, _≡_, ap, ap₂, refl, subst, sym}
 use Prim.Native.Nat.{_*_, _+_, _-_, _<_, _≤_, max, suc, ℕ}
+use native.Mathlib.Nat.{le-refl}
 use native.Mathlib.Omega.{arith}
 use lib.Dec.{T, eqb}
 use lib.ListN.{drop, length, length-append, length-drop, length-replicate, replicate, take}
 use lib.Seq.{drop-at, drop-drop, getD-take, length-take-le, take-at}
 use Rattle.morphology.specs.Element.{offsets}
+use Rattle.morphology.specs.Falls.{fallsOff}
 use Rattle.morphology.specs.Image.{imageSet, isClean, pack, planeBytes}
 use Rattle.morphology.specs.Labels.{labelAt}
 use Rattle.morphology.specs.Lists.{greatest}
-use Rattle.morphology.specs.Morphology.{dilate}
+use Rattle.morphology.specs.Morphology.{dilate, times}
 use Rattle.morphology.specs.Point.{Point}
 use Rattle.morphology.specs.Skeleton.{reconstruction}
 use Rattle.morphology.proofs.ElementLaws.{element}
+use Rattle.morphology.proofs.FallsLaws.{on-falls}
 use Rattle.morphology.proofs.FrameLaws.{OnFrame}
-use Rattle.morphology.proofs.ImageLaws.{Agree, clean-agree, image-agree, length-pack}
+use Rattle.morphology.proofs.ImageLaws.{Agree, clean-agree, image-agree, image-on, length-pack}
+use Rattle.morphology.proofs.InTurnLaws.{times-whole}
 use Rattle.morphology.proofs.LabelLaws.{labelAt-le}
 use Rattle.morphology.proofs.MorphologyLaws.{dilate-zero}
 use Rattle.morphology.proofs.PlaneLaws.{pack-empty}
@@ -25,7 +29,7 @@ use Rattle.label_read.specs.Points.{withPoints}
 use Rattle.raster.specs.Rows.{overwrite}
 use Rattle.raster.proofs.PartLaws.{overwrite-all}
 use Rattle.iteration.specs.Steps.{First, dilated}
-use Rattle.iteration.proofs.StepLaws.{dilated-is, first-as, first-clean, first-image, first-next}
+use Rattle.iteration.proofs.StepLaws.{first-as, first-clean, first-image, first-next}
 use Rattle.reconstruction.specs.Gathered.{Tame, gathered, grown}
 
 -- ---- one size
@@ -83,22 +87,30 @@ module _ (W H p e k : ℕ) (q : p ≡ planeBytes W H) (m : List ℕ) (t : Tame W
   pub gathered-clean : (n : ℕ) (w u : List ℕ) → Gathered n w u → T (isClean W H u)
   gathered-clean n w u a = first-clean q (gathered-on n) a
 
+  gathered-set : (n : ℕ) (w u : List ℕ) → k < n → Gathered n w u → imageSet W H u ≡ gathered W H (offsets e) m n
+  gathered-set n w u l a = let i : max n k ≡ n = omega arith in first-image q (gathered-on n) a ∙ ap (gathered W H (offsets e) m) i
+
+  -- a size further down nothing falls off
+  pub gathered-stays : (n : ℕ) (w u : List ℕ) → k < n → Gathered n w u → fallsOff W H (times (offsets e) 1) (imageSet W H u) ≡ false
+  gathered-stays n w u l a =
+      let U = gathered W H (offsets e) m n in
+      ap (fallsOff W H (times (offsets e) 1)) (gathered-set n w u l a)
+      ∙ on-falls W H (times (offsets e) 1) U (union-on W H (offsets e) (element e (t .element)) m (t .stays) n 1 (omega arith))
+
   -- one size more
-  pub gathered-more : (n : ℕ) (w u v : List ℕ) → k < n → Gathered n w u → First W H p (grown W H (offsets e) m n u) u v → Gathered (n - 1) w v
-  unfolding dilated
-  gathered-more n w u v l a b =
+  pub gathered-more : (n : ℕ) (w u v : List ℕ) → k < n → Gathered n w u → fallsOff W H (times (offsets e) 1) (imageSet W H u) ≡ false
+      → First W H p (grown W H (offsets e) m n u) u v → Gathered (n - 1) w v
+  gathered-more n w u v l a stays b =
       let el = element e (t .element) in
       let U = gathered W H (offsets e) m n in
-      let i : max n k ≡ n = omega arith in
       let j : max (n - 1) k ≡ n - 1 = omega arith in
       let s : n ≡ suc (n - 1) = omega arith in
-      let set : imageSet W H u ≡ U = first-image q (gathered-on n) a ∙ ap (gathered W H (offsets e) m) i in
-      let one : dilated W H (offsets e) 1 U ≡ dilate (offsets e) U =
-      dilated-is W H (offsets e) U 1 (λ i h. union-on W H (offsets e) el m (t .stays) n i (omega arith))
+      let one : dilated W H (offsets e) 1 (imageSet W H u) ≡ dilate (offsets e) U =
+      times-whole W H (offsets e) (el .centred) (imageSet W H u) (image-on W H u) 1 stays ∙ ap (dilate (times (offsets e) 1)) (gathered-set n w u l a)
       ∙ dilated-suc (offsets e) 0 U ∙ ap (dilate (offsets e)) (dilate-zero (offsets e) U) in
       let joined : ℕ → (Point → Bool) → (Point → Bool) = λ i Y z. eqb (labelAt W H m z) i || Y z in
       let turn : joined n (dilated W H (offsets e) 1 (imageSet W H u)) ≡ gathered W H (offsets e) m (max (n - 1) k) =
-      ap (joined n) (ap (dilated W H (offsets e) 1) set ∙ one)
+      ap (joined n) one
       ∙ ap (λ (i : ℕ). joined i (dilate (offsets e) (gathered W H (offsets e) m i))) s
       ∙ sym (union-turn W H (offsets e) el m (n - 1)) ∙ ap (gathered W H (offsets e) m) (sym j) in
       first-next a (first-as (ap (pack W H) turn) b)
@@ -107,17 +119,26 @@ module _ (W H p e k : ℕ) (q : p ≡ planeBytes W H) (m : List ℕ) (t : Tame W
   pub gathered-last : (n : ℕ) (w u : List ℕ) → n ≤ k → Gathered n w u → First W H p (gathered W H (offsets e) m k) w u
   gathered-last n w u l a = let i : max n k ≡ k = omega arith in subst (λ (i : ℕ). First W H p (gathered W H (offsets e) m i) w u) i a
 
-  -- and the cut's dilations
-  pub gathered-dilated : (w u v : List ℕ) → First W H p (gathered W H (offsets e) m k) w u → First W H p (dilated W H (offsets e) k (imageSet W H u)) u v
-      → First W H p (reconstruction W H (offsets e) k m) w v
-  gathered-dilated w u v a b =
-      let el = element e (t .element) in
+  -- by the cut's dilations nothing falls off
+  last-set : (w u : List ℕ) → First W H p (gathered W H (offsets e) m k) w u → imageSet W H u ≡ gathered W H (offsets e) m k
+  last-set w u a = first-image q (union-at-on W H (offsets e) (element e (t .element)) m (t .stays) k) a
+
+  pub last-stays : (w u : List ℕ) → First W H p (gathered W H (offsets e) m k) w u → fallsOff W H (times (offsets e) k) (imageSet W H u) ≡ false
+  last-stays w u a =
       let U = gathered W H (offsets e) m k in
-      let on = union-at-on W H (offsets e) el m (t .stays) k in
+      ap (fallsOff W H (times (offsets e) k)) (last-set w u a)
+      ∙ on-falls W H (times (offsets e) k) U (union-on W H (offsets e) (element e (t .element)) m (t .stays) k k (le-refl k))
+
+  -- and they make the reconstruction
+  pub gathered-dilated : (w u v : List ℕ) → First W H p (gathered W H (offsets e) m k) w u → fallsOff W H (times (offsets e) k) (imageSet W H u) ≡ false
+      → First W H p (dilated W H (offsets e) k (imageSet W H u)) u v → First W H p (reconstruction W H (offsets e) k m) w v
+  gathered-dilated w u v a stays b =
+      let el = element e (t .element) in
       first-next a
       (first-as
       (ap (pack W H)
-      (ap (dilated W H (offsets e) k) (first-image q on a) ∙ dilated-is W H (offsets e) U k (union-on W H (offsets e) el m (t .stays) k) ∙ union-dilated W H (offsets e) el m k))
+      (times-whole W H (offsets e) (el .centred) (imageSet W H u) (image-on W H u) k stays ∙ ap (dilate (times (offsets e) k)) (last-set w u a)
+      ∙ union-dilated W H (offsets e) el m k))
       b)
 
   pub gathered-cleans : (w u : List ℕ) → First W H p (gathered W H (offsets e) m k) w u → T (isClean W H u)

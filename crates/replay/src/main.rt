@@ -3,8 +3,8 @@
 // A call is a header of 33 bytes, then the buffers x, y, z and c. Numbers are u32, lowest byte first.
 //
 //     0        the operation: 0 erode, 1 open, 2 decompose, 3 reconstruct, 4 minimise, 5 hit_or_miss, 6 thin, 7 encode,
-//              8 decode with a largest size, 9 decode of a blank
-//     1..17    w, h, a, b: a is the element (0 to 4, 7 to 9) or the mask's foreground (5);
+//              8 decode with a largest size, 9 decode of a blank, 10 a dilation with its own answer, which is no public function
+//     1..17    w, h, a, b: a is the element (0 to 4, 7 to 10) or the mask's foreground (5);
 //              b is n (0, 1), the cut (3), the mask's background (5) or the largest size (8); an operation passes over what it does not have
 //     17..33   the lengths of x, y and z in bytes and of c in counters: x at most 1,048,576, each other at most 65,536; a counter has two bytes,
 //              lowest first
@@ -15,14 +15,15 @@
 //     decompose      x image, y labels, z work        hit_or_miss    x image, y out
 //     reconstruct    x labels, y image, z work        thin           y image, z work
 //     encode         x image, y out, z work           decode         x stream, y image, z work
+//     dilation       x image, y out, z work
 //
 // A reply is 14 bytes, then y, z and c as they are after the call.
 //
 //     0        the refusal's number, 0 if there is none
-//     1        how many values the answer has: none if it is refused; decompose and encode have 2, or 1 of a blank image, thin 3, the others 1
+//     1        how many values the answer has: none if it is refused; decompose and encode have 2, or 1 of a blank image, a dilation 2, thin 3, the others 1
 //     2..14    three values, 0 where there is none
 //
-// It ends at the end of the input, at input that ends inside a call, at a read that fails, at an operation above 9 and at a length above these.
+// It ends at the end of the input, at input that ends inside a call, at a read that fails, at an operation above 10 and at a length above these.
 use input::Input;
 ghost use mathlib.Core.Path.{_≡_};
 ghost use Prim.Native.Nat.{_*_};
@@ -87,7 +88,7 @@ fn turn(x: &mut [u8], y: &mut [u8], z: &mut [u8], c: &mut [u8], counters: &mut [
     let ys = numbers::number(&header, 21) as usize;
     let zs = numbers::number(&header, 25) as usize;
     let cs = numbers::number(&header, 29) as usize;
-    if header[0] > 9 || xs > x.len() || ys > y.len() || zs > z.len() {
+    if header[0] > 10 || xs > x.len() || ys > y.len() || zs > z.len() {
         return false;
     }
     if cs > counters.len() || 2 * cs > c.len() {

@@ -1,6 +1,8 @@
 // Erosion and opening by n-fold elements, decomposition, reconstruction at a cut: public.
+use iteration::Inked;
 pub use iteration::Written;
 use reconstruction::reconstruct_into;
+ghost use mathlib.Core.Bool.{false};
 ghost use mathlib.Core.Path.{_≡_};
 ghost use mathlib.Core.List.{[], _∷_};
 ghost use Prim.Native.Nat.{_≤_};
@@ -32,7 +34,7 @@ fn fold_refusal(w: u32, h: u32, element: u32, n: u32, image: &[u8], out: &[u8], 
     refusals::first(early, above)
 }
 
-// An image that is not refused, eroded, then dilated, into out.
+// An image that is not refused, eroded, then dilated, into out. Nothing fell off.
 fn fold_into(
     w: usize,
     h: usize,
@@ -42,17 +44,22 @@ fn fold_into(
     image: &[u8],
     out: &mut [u8],
     work: &mut [u8],
-) -> u32
+) -> Inked
     requires { ⌜ Ready w h (now image) (now out) (now work) × T (isElement element) × (dilations ≤ erosions) ⌝ }
-    ensures { λ a. ⌜ Wrote w h (dilateSet (times (offsets element) dilations) (erodeSet (times (offsets element) erosions) (imageSet w h (now (image .entry)))))
-        a (now (out .exit)) (now (work .entry)) (now (work .exit)) ⌝ }
+    ensures image { λ a. ⌜ Wrote w h
+        (dilateSet (times (offsets element) dilations) (erodeSet (times (offsets element) erosions) (imageSet w h (now (image .entry)))))
+        (a .area) (now (out .exit)) (now (work .entry)) (now (work .exit)) ⌝ }
+    ensures clipped { λ a. ⌜ a .clipped ≡ false ⌝ }
 {
     let r = (w + 7) / 8;
     let p = h * r;
     raster::copy(image, &mut work[..p]);
     iteration::erode_times(w, h, r, p, element, erosions, work);
-    iteration::dilate_times(w, h, r, p, element, dilations, work);
-    iteration::hand_out(p, out, work)
+    let clipped = iteration::dilate_times(w, h, r, p, element, dilations, work);
+    Inked {
+        area: iteration::hand_out(p, out, work),
+        clipped,
+    }
 }
 
 // Erosion by the n-fold element: from image into out.
@@ -72,8 +79,8 @@ pub fn erode(
     if refusal != 0 {
         return Written::Refused(refusal);
     }
-    let area = fold_into(w as usize, h as usize, element, n, 0, image, out, work);
-    Written::Area(area)
+    let done = fold_into(w as usize, h as usize, element, n, 0, image, out, work);
+    Written::Area(done.area)
 }
 
 // Opening by the n-fold element: from image into out.
@@ -93,8 +100,8 @@ pub fn open(
     if number != 0 {
         return Written::Refused(number);
     }
-    let area = fold_into(w as usize, h as usize, element, n, n, image, out, work);
-    Written::Area(area)
+    let done = fold_into(w as usize, h as usize, element, n, n, image, out, work);
+    Written::Area(done.area)
 }
 
 // The first row of the table of refusals that applies to a decomposition; 0 if there is none.
@@ -174,6 +181,6 @@ pub fn reconstruct(
     if no != 0 {
         return Written::Refused(no);
     }
-    let ink = reconstruct_into(w as usize, h as usize, element, cut, labels, image, work);
-    Written::Area(ink)
+    let done = reconstruct_into(w as usize, h as usize, element, cut, labels, image, work);
+    Written::Area(done.area)
 }

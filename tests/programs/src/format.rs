@@ -4,17 +4,19 @@
 //! and c. x is only read; y, z and c are lent. a is the element or a mask's foreground, b is
 //! n, the cut, the mask's background or the largest size beside a stream; what an operation does
 //! not have is passed over. Reading a code has two numbers: one with a largest size, one with the
-//! blank mark.
+//! blank mark. Every other operation has one.
 //!
 //! A reply: a byte for the refusal, 0 if there is none, a byte for how many values the answer
 //! has, three values, then y, z and c as they are after the call.
 
-use reference::cases::{run, Call, OPERATIONS};
+use reference::cases::{run, Call};
 use reference::{Answer, Mark};
 use std::io::{self, Read};
 
-/// The operations above those of `Call`: reading with the blank mark.
-pub const DECODE_BLANK: u8 = OPERATIONS.len() as u8;
+/// The operations whose number is not their place in `Call`: reading with the blank mark, and
+/// dilation, which comes after it.
+pub const DECODE_BLANK: u8 = 9;
+pub const DILATE: u8 = 10;
 
 /// A call of the format.
 #[derive(Clone, Debug, Default, PartialEq)]
@@ -51,6 +53,8 @@ impl From<&Call> for Message {
                 ([*w, *h, *fg, *bg], image, out, &[], &[]),
             Call::Thin { w, h, image, work } =>
                 ([*w, *h, 0, 0], &[], image, work, &[]),
+            Call::Dilate { w, h, element, image, out, work } =>
+                ([*w, *h, *element, 0], image, out, work, &[]),
         };
         Message {
             operation: number(call),
@@ -69,6 +73,7 @@ fn number(call: &Call) -> u8 {
         Call::Decode {
             mark: Mark::Blank, ..
         } => DECODE_BLANK,
+        Call::Dilate { .. } => DILATE,
         _ => call.operation() as u8,
     }
 }
@@ -121,6 +126,7 @@ impl Reply {
                 area,
             } => (0, 3, [passes, removed, area]),
             Answer::Coded { bytes, max_size } => (0, 2, [bytes, max_size, 0]),
+            Answer::Dilated { area, fell } => (0, 2, [area, fell as u32, 0]),
         };
         let Message { y, z, c, .. } = Message::from(after);
         Reply {
@@ -205,7 +211,8 @@ pub fn describe(call: &Call) -> String {
 #[cfg(test)]
 mod tests {
     use super::*;
-    use reference::cases::call;
+    use reference::cases::{accepted, call};
+    use std::collections::BTreeSet;
 
     #[test]
     fn a_call_byte_by_byte() {
@@ -276,6 +283,39 @@ mod tests {
         let reply = Reply::new(&Answer::Area(3), &largest);
         let answer = [0, 1, 3, 0, 0, 0, 0, 0, 0, 0, 0, 0, 0, 0];
         assert_eq!(reply.bytes(), [&answer[..], &[7, 9, 9, 9, 9, 9]].concat());
+    }
+
+    #[test]
+    fn a_dilation_byte_by_byte() {
+        let call = Call::Dilate {
+            w: 4,
+            h: 1,
+            element: 0x04030201,
+            image: vec![0x70],
+            out: vec![8],
+            work: vec![9; 3],
+        };
+        #[rustfmt::skip]
+        let bytes = [
+            10,
+            4, 0, 0, 0, 1, 0, 0, 0, 1, 2, 3, 4, 0, 0, 0, 0,
+            1, 0, 0, 0, 1, 0, 0, 0, 3, 0, 0, 0, 0, 0, 0, 0,
+            0x70, 8, 9, 9, 9,
+        ];
+        assert_eq!(Message::from(&call).bytes(), bytes);
+        for (fell, second) in [(false, 0), (true, 1)] {
+            let reply = Reply::new(&Answer::Dilated { area: 3, fell }, &call);
+            let answer = [0, 2, 3, 0, 0, 0, second, 0, 0, 0, 0, 0, 0, 0];
+            assert_eq!(reply.bytes(), [&answer[..], &[8, 9, 9, 9]].concat());
+        }
+    }
+
+    /// Every operation has its number, and reading two: 0 to 10.
+    #[test]
+    fn the_numbers_of_the_operations() {
+        let calls = accepted();
+        let numbers: BTreeSet<u8> = calls.iter().map(|(call, _)| number(call)).collect();
+        assert_eq!(numbers, (0..=10).collect());
     }
 
     /// A line names what a call is: the mark and the stream too.

@@ -2,16 +2,16 @@
 //! program is run on them wherever the proofs are checked.
 
 use crate::format::{Message, Reply};
-use reference::cases::{call, coded, damaged, readings, settled, Call};
+use reference::cases::{call, coded, damaged, dilated, readings, settled, Call, Settled};
 
 /// The longest call that is stored, in bytes.
 const LONGEST: usize = 1_000;
 const SEEDS: u64 = 300;
 
-/// The settled cases, codes and readings, each kind of damage alone, and seeded calls.
+/// The settled cases, codes, readings and dilations, each kind of damage alone, and seeded calls.
 pub fn calls() -> Vec<Call> {
-    let settled = settled().into_iter().chain(coded()).chain(readings());
-    let settled = settled.map(|settled| settled.call);
+    let settled: [Vec<Settled>; 4] = [settled(), coded(), readings(), dilated()];
+    let settled = settled.into_iter().flatten().map(|settled| settled.call);
     let alone = damaged().into_iter().filter(|d| d.rows.len() == 1);
     let small = |call: &Call| Message::from(call).bytes().len() <= LONGEST;
     let seeded = (0..SEEDS).map(call).filter(small);

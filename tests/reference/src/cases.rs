@@ -3,6 +3,7 @@
 
 mod coded;
 mod damage;
+mod dilated;
 mod readings;
 mod refused;
 mod settled;
@@ -11,6 +12,7 @@ mod tickets;
 
 pub use coded::coded;
 pub use damage::{Damage, DAMAGES};
+pub use dilated::dilated;
 pub use readings::readings;
 pub use refused::{accepted, damaged, Damaged};
 pub use settled::{settled, shortened_at_a_cut, Settled};
@@ -103,6 +105,14 @@ pub enum Call {
         image: Vec<u8>,
         work: Vec<u8>,
     },
+    Dilate {
+        w: u32,
+        h: u32,
+        element: u32,
+        image: Vec<u8>,
+        out: Vec<u8>,
+        work: Vec<u8>,
+    },
 }
 
 /// The answer to a call, and the same call with every lent buffer as it is afterwards.
@@ -128,6 +138,8 @@ pub fn run(call: &Call) -> (Answer, Call) {
             crate::encode(*w, *h, *element, image, out, work),
         Call::Decode { w, h, element, mark, stream, image, work } =>
             crate::decode(*w, *h, *element, *mark, stream, image, work),
+        Call::Dilate { w, h, element, image, out, work } =>
+            crate::dilate(*w, *h, *element, image, out, work),
     };
     (answer, after)
 }
@@ -156,7 +168,7 @@ pub struct Parts<'a> {
 }
 
 /// The operations, in the order of `Call`.
-pub const OPERATIONS: [&str; 9] = [
+pub const OPERATIONS: [&str; 10] = [
     "erode",
     "open",
     "decompose",
@@ -166,6 +178,7 @@ pub const OPERATIONS: [&str; 9] = [
     "thin",
     "encode",
     "decode",
+    "dilate",
 ];
 
 impl Call {
@@ -181,6 +194,7 @@ impl Call {
             Call::Thin { .. } => 6,
             Call::Encode { .. } => 7,
             Call::Decode { .. } => 8,
+            Call::Dilate { .. } => 9,
         }
     }
 
@@ -236,6 +250,10 @@ impl Call {
             Call::Decode { w, h, element, mark, stream, image, work } => Parts {
                 element: Some(element), ticket: Some((mark, stream)),
                 written: Some(image), work: Some(work), planes: READER_PLANES, ..none(w, h)
+            },
+            Call::Dilate { w, h, element, image, out, work } => Parts {
+                element: Some(element),
+                read: Some(image), written: Some(out), work: Some(work), ..none(w, h)
             },
         };
         parts
@@ -310,7 +328,8 @@ pub fn sound_call_by(rng: &mut Rng, operation: usize, w: u32, h: u32, element: u
         5 => Call::HitOrMiss { w, h, fg, bg, image, out: written },
         6 => Call::Thin { w, h, image, work },
         7 => Call::Encode { w, h, element, image, out: stream, work },
-        _ => Call::Decode { w, h, element, mark, stream, image: written, work },
+        8 => Call::Decode { w, h, element, mark, stream, image: written, work },
+        _ => Call::Dilate { w, h, element, image, out: written, work },
     };
     call
 }

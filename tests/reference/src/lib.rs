@@ -1,12 +1,13 @@
-//! An independent second program for the rules of document 01, with the edge of T-04 and row 5 of
-//! T-05, and the codes of 02, written and read. It works on unpacked sets of points and on
-//! distances, not on packed planes that are eroded and dilated step by step, and it is the judge
-//! in comparisons: for any arguments and any lengths it says the answer and every lent byte
-//! afterwards.
+//! An independent second program for the rules of document 01, with the edge of T-04, row 5 of
+//! T-05 and the dilation of T-06, and the codes of 02, written and read. It works on unpacked sets
+//! of points and on distances, not on packed planes that are eroded and dilated step by step, and
+//! it is the judge in comparisons: for any arguments and any lengths it says the answer and every
+//! lent byte afterwards.
 
 pub mod cases;
 mod code;
 mod decode;
+mod dilation;
 pub mod drawn;
 mod element;
 mod frame;
@@ -44,6 +45,8 @@ pub enum Answer {
     },
     /// The bytes of the stream written and the largest size.
     Coded { bytes: u32, max_size: u32 },
+    /// The foreground points of the dilated image written, and whether any fell off the frame.
+    Dilated { area: u32, fell: bool },
 }
 
 use Answer::*;
@@ -308,6 +311,35 @@ pub fn decode(
         clear(frame, READER_PLANES, work);
         let read = decode::decode(frame, element, mark, stream);
         read.map_or_else(Refused, |set| write(frame, &set, image))
+    })
+}
+
+/// Dilation by B once ("the inner growing step"), which says whether ink fell off the frame.
+pub fn dilate(
+    w: u32,
+    h: u32,
+    element: u32,
+    image: &[u8],
+    out: &mut [u8],
+    work: &mut [u8],
+) -> Answer {
+    let arguments = Arguments {
+        w,
+        h,
+        element: Some(element),
+        images: &[image.len(), out.len()],
+        work: Some((work.len(), PLANES)),
+        read: Some(image),
+        ..Arguments::default()
+    };
+    accept(&arguments).map_or_else(Refused, |frame| {
+        clear(frame, PLANES, work);
+        let (dilated, fell) = dilation::dilate(&frame.unpack(image), element);
+        write(frame, &dilated, out);
+        Dilated {
+            area: dilated.area(),
+            fell,
+        }
     })
 }
 

@@ -3,7 +3,7 @@ use mathlib.Core.List.{[], _∷_}
 use Prim.Native.Nat.{zero-le}
 use denote.Ref.{now}
 use Rattle.calls.specs.Called.{called}
-use Rattle.calls.proofs.CallLaws.{called-as, called-blank, decomposed-kept, encoded-kept, minimised-kept, owed, owed-beside, past, thinned-kept, written-kept}
+use Rattle.calls.proofs.CallLaws.{called-as, called-dilated, decomposed-kept, dilated-kept, encoded-kept, minimised-kept, owed, owed-beside, past, thinned-kept, written-kept}
 use borrow.Author.Needs.{needs}
 use Rattle.calls.proofs.call.Statement.{statement}
 use Rattle.calls.proofs.call.Tie as tie
@@ -67,6 +67,12 @@ decode-requires-2 c κs = search needs
 
 of-written-requires-6 : tie.Need-of-written-requires-6
 of-written-requires-6 c κs = search needs
+
+dilate-requires : tie.Need-dilate-requires
+dilate-requires c κs = search needs
+
+of-dilated-requires : tie.Need-of-dilated-requires
+of-dilated-requires c κs = search needs
 
 same-length : tie.Need-same-length
 same-length c = search needs
@@ -215,12 +221,27 @@ returns-10 c =
     let o = c .before .before .before .before .before in
     let m = o .before .before .before in
     let a = m .before .before .before .before .before .args in
+    owed-beside (_ ∷ _ ∷ []) (_ ∷ []) (written-kept (o .decode2 .result)) (c .of-written6 .ensures) (o .decode2 .ensures)
+    (called-as (a .w) (a .h) (a .a) (a .b) (now (a .x)) (now (a .y)) (now (a .z)) (now (a .c)) 9 (m .match .keys10))
+
+same-length-21 : tie.Need-same-length-21
+same-length-21 c = search needs
+
+same-length-22 : tie.Need-same-length-22
+same-length-22 c = search needs
+
+returns-11 : tie.Need-returns-11
+unfolding called
+returns-11 c =
+    let o = c .before .before .before .before .before in
+    let m = o .before .before .before in
+    let a = m .before .before .before .before .before .args in
     let r = m .match .rest in
     let n = a .op in
-    let four = past n 3 (past n 2 (past n 1 (past n 0 zero-le (r .0 .0 .0 .0 .0 .0 .0 .0 .1)) (r .0 .0 .0 .0 .0 .0 .0 .1)) (r .0 .0 .0 .0 .0 .0 .1)) (r .0 .0 .0 .0 .0 .1) in
-    let above = past n 8 (past n 7 (past n 6 (past n 5 (past n 4 four (r .0 .0 .0 .0 .1)) (r .0 .0 .0 .1)) (r .0 .0 .1)) (r .0 .1)) (r .1) in
-    let h = called-blank (a .w) (a .h) (a .a) (a .b) (now (a .x)) (now (a .y)) (now (a .z)) (now (a .c)) (a .op) above in
-    owed-beside (_ ∷ _ ∷ []) (_ ∷ []) (written-kept (o .decode2 .result)) (c .of-written6 .ensures) (o .decode2 .ensures) h
+    let four = past n 3 (past n 2 (past n 1 (past n 0 zero-le (r .0 .0 .0 .0 .0 .0 .0 .0 .0 .1)) (r .0 .0 .0 .0 .0 .0 .0 .0 .1)) (r .0 .0 .0 .0 .0 .0 .0 .1)) (r .0 .0 .0 .0 .0 .0 .1) in
+    let nine = past n 8 (past n 7 (past n 6 (past n 5 (past n 4 four (r .0 .0 .0 .0 .0 .1)) (r .0 .0 .0 .0 .1)) (r .0 .0 .0 .1)) (r .0 .0 .1)) (r .0 .1) in
+    let h = called-dilated (a .w) (a .h) (a .a) (a .b) (now (a .x)) (now (a .y)) (now (a .z)) (now (a .c)) (a .op) (past n 9 nine (r .1)) in
+    owed-beside (_ ∷ _ ∷ []) (_ ∷ []) (dilated-kept (o .dilate .result)) (c .of-dilated .ensures) (o .dilate .ensures) h
 
 pub call-spec : {M : Type 1} → statement M
 call-spec =
@@ -246,6 +267,8 @@ call-spec =
     of-written-requires-5
     decode-requires-2
     of-written-requires-6
+    dilate-requires
+    of-dilated-requires
     same-length
     same-length-2
     returns
@@ -275,4 +298,7 @@ call-spec =
     returns-9
     same-length-19
     same-length-20
-    returns-10)
+    returns-10
+    same-length-21
+    same-length-22
+    returns-11)

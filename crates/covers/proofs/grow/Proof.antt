@@ -1,5 +1,5 @@
--- `covers::grow` meets its contract: no ink, something that falls off, or a dilation of the rows that it reaches.
-use mathlib.Core.Path.{_∙_, refl, sym}
+-- `covers::grow` meets its contract: no ink, or a dilation on the rows that it can reach, which answers for the whole frame.
+use mathlib.Core.Path.{refl, sym}
 use native.Mathlib.Nat.{le-refl}
 use native.Mathlib.Omega.{arith}
 use borrow.Author.Needs.{needs}
@@ -7,11 +7,11 @@ use denote.Ref.{now}
 use lib.Seq.{length-take-le}
 use Rattle.morphology.proofs.ElementLaws.{element-bit}
 use Rattle.iteration.proofs.BandLaws.{sheet-rows}
-use Rattle.covers.proofs.GrowLaws.{CoverFound, CoverStays, falls-start, grow-blank, grow-done, grow-fallen, reach-bytes, reach-clean, reach-frame, reach-long, room-above}
+use Rattle.covers.proofs.GrowLaws.{CoverFound, CoverLent, grow-blank, grow-done, rows-bytes, rows-clean, rows-frame, rows-long}
 use Rattle.covers.proofs.grow.Statement.{statement}
 use Rattle.covers.proofs.grow.Tie as tie
 
--- where the rows are found, and the start
+-- where the rows of the ink are found, and the start
 abbrev start : tie.After-end-row → tie.Start
 start c = c .before .before .before .before .before
 
@@ -25,20 +25,18 @@ found c = record {
   end = c .end-row .ensures;
 }
 
--- where nothing falls off
-abbrev rows : tie.After-extent2 → tie.After-end-row
-rows c = c .before .before .before .before .before .before
+-- and those that are lent
+abbrev ink : tie.After-less2 → tie.After-end-row
+ink c = c .before .before .before .before .before
 
-stays : (c : tie.After-extent2)
-    → let d = rows c in let a = start d .args in
-    CoverStays (a .w) (a .h) (a .r) (a .p) (a .element) (d .before .before .first-row .result) (d .end-row .result)
-    (c .before .extent .result) (c .extent2 .result) (now (a .work))
-stays c = record {
-  found = found (rows c);
-  some = c .before .before .before .before .before .if1 .left;
-  stays = sym (c .before .before .before .falls-off .ensures) ∙ c .before .before .if2 .left;
-  upward = c .before .extent .ensures .0;
-  downward = c .extent2 .ensures .0;
+lent : (c : tie.After-less2)
+    → let d = ink c in let a = start d .args in
+    CoverLent (a .w) (a .h) (a .r) (a .p) (a .element) (d .before .before .first-row .result) (d .end-row .result) (c .before .less .result) (c .less2 .result)
+    (now (a .work))
+lent c = record {
+  found = found (ink c);
+  above = omega (arith, c .before .less .ensures);
+  below = omega (arith, c .less2 .ensures, ink c .end-row .ensures .to);
 }
 
 slice-reshare-prefix-first-row : tie.Need-slice-reshare-prefix-first-row
@@ -73,46 +71,35 @@ same-length c = search needs
 returns : tie.Need-returns
 returns c = grow-blank (found (c .before)) (c .if1 .taken)
 
-slice-reshare-prefix-falls-off : tie.Need-slice-reshare-prefix-falls-off
-slice-reshare-prefix-falls-off c = search needs
-
-slice-aggregate-falls-off : tie.Need-slice-aggregate-falls-off
-slice-aggregate-falls-off c =
-    let s = start (c .before .before) in
-    sym (length-take-le (s .args .p) (now (s .args .work)) (omega (arith, s .pre .room)))
-
-falls-off-requires : tie.Need-falls-off-requires
-falls-off-requires c κs = falls-start (found (c .before .before)) (c .before .if1 .left)
-
-same-length-2 : tie.Need-same-length-2
-same-length-2 c = search needs
-
-returns-2 : tie.Need-returns-2
-returns-2 c = grow-fallen (found (c .before .before .before .before)) _ (c .before .falls-off .ensures) (c .if2 .taken)
-
 extent-requires : tie.Need-extent-requires
 extent-requires c κs = search needs
 
 extent-requires-2 : tie.Need-extent-requires-2
 extent-requires-2 c κs = search needs
 
-sub-first : tie.Need-sub-first
-sub-first c = room-above (stays c)
+less-requires : tie.Need-less-requires
+less-requires c κs = search needs
 
-add-dilate-plane : tie.Need-add-dilate-plane
-add-dilate-plane c = search needs
+sub-less : tie.Need-sub-less
+sub-less c = search needs
+
+less-requires-2 : tie.Need-less-requires-2
+less-requires-2 c κs = search needs
+
+sub-end : tie.Need-sub-end
+sub-end c = search needs
 
 sub-dilate-plane : tie.Need-sub-dilate-plane
 sub-dilate-plane c = search needs
 
 mul-dilate-plane : tie.Need-mul-dilate-plane
-mul-dilate-plane c = omega (arith, reach-bytes (stays c))
+mul-dilate-plane c = omega (arith, rows-bytes (lent c))
 
 sub-dilate-plane-2 : tie.Need-sub-dilate-plane-2
-sub-dilate-plane-2 c = omega (arith, reach-bytes (stays c), start (rows c) .pre .room)
+sub-dilate-plane-2 c = omega (arith, rows-bytes (lent c), start (ink c) .pre .room)
 
 part-dilate-plane-start : tie.Need-part-dilate-plane-start
-part-dilate-plane-start c = omega (arith, reach-bytes (stays c), start (rows c) .pre .room)
+part-dilate-plane-start c = omega (arith, rows-bytes (lent c), start (ink c) .pre .room)
 
 part-dilate-plane-end : tie.Need-part-dilate-plane-end
 part-dilate-plane-end c = search needs
@@ -120,14 +107,24 @@ part-dilate-plane-end c = search needs
 dilate-plane-requires : tie.Need-dilate-plane-requires
 dilate-plane-requires c κs =
     let d = c .before in
-    let g = stays d in
-    (reach-frame g, omega (arith, reach-bytes g), reach-long g _ refl, element-bit _ (start (rows d) .pre .element), reach-clean g _ refl)
+    let g = lent d in
+    (rows-frame g, omega (arith, rows-bytes g), rows-long g _ refl, element-bit _ (start (ink d) .pre .element), rows-clean g _ refl)
 
-same-length-3 : tie.Need-same-length-3
-same-length-3 c = search needs
+same-length-2 : tie.Need-same-length-2
+same-length-2 c = search needs
 
-returns-3 : tie.Need-returns-3
-returns-3 c = grow-done (stays (c .before .before .before .before)) _ refl _ (c .before .before .dilate-plane .ensures)
+returns-2 : tie.Need-returns-2
+returns-2 c =
+    let e = c .before .before .dilate-plane .ensures in
+    let l = c .before .before .before .before in
+    grow-done (lent l) _ refl _ (e .0)
+    (record {
+      leftward = refl;
+      rightward = refl;
+      upward = l .before .before .before .extent .ensures .0;
+      downward = l .before .before .extent2 .ensures .0;
+    })
+    (l .before .less .ensures) (l .less2 .ensures) _ (e .1)
 
 pub grow-spec : {M : Type 1} → statement M
 grow-spec =
@@ -141,20 +138,17 @@ grow-spec =
     end-row-requires
     same-length
     returns
-    slice-reshare-prefix-falls-off
-    slice-aggregate-falls-off
-    falls-off-requires
-    same-length-2
-    returns-2
     extent-requires
     extent-requires-2
-    sub-first
-    add-dilate-plane
+    less-requires
+    sub-less
+    less-requires-2
+    sub-end
     sub-dilate-plane
     mul-dilate-plane
     sub-dilate-plane-2
     part-dilate-plane-start
     part-dilate-plane-end
     dilate-plane-requires
-    same-length-3
-    returns-3)
+    same-length-2
+    returns-2)

@@ -63,8 +63,7 @@ returns : tie.Need-returns
 returns c =
     let g = c .before .before .before in
     let e = g .grow .ensures in
-    let q = e .kept (c .if1 .taken) in
-    (record { size = ap length q; rest = ap (drop (3 * start g .args .p)) q }, inl (sym (e .answer) ∙ c .if1 .taken))
+    (second-kept (record { size = e .size; first = e .first; second = refl; rest = e .rest }), inl (sym (e .answer) ∙ c .if1 .taken))
 
 mul-read-size : tie.Need-mul-read-size
 mul-read-size c = let s = start (c .before .before .before) in omega (arith, sheet-small (s .pre .0 .sheet))

@@ -92,7 +92,7 @@ clear-work-requires c κs =
     let q = sheet-bytes k in
     let p = a .h * ((a .w + 7) / 8) in
     let v = loaded (a .w) (a .h) p (now (a .image)) (now (a .image)) (now (a .work)) _ q (s .pre .0) (at-copy .copy .ensures) in
-    (omega (arith, v .size, at-take-turns .take-turns .ensures .size, s .pre .0 .work, q), sheet-small k)
+    (omega (arith, v .size, at-take-turns .take-turns .ensures .0 .size, s .pre .0 .work, q), sheet-small k)
 
 same-length : tie.Need-same-length
 same-length c = search needs
@@ -111,11 +111,14 @@ returns c =
     let q = sheet-bytes k in
     let p = a .h * ((a .w + 7) / 8) in
     let v = loaded (a .w) (a .h) p (now (a .image)) (now (a .image)) (now (a .work)) _ q (s .pre .0) (at-copy .copy .ensures) in
-    let t = at-take-turns .take-turns .ensures in
+    let t = at-take-turns .take-turns .ensures .0 in
     let w = at-take-turns .take-turns .last .1 .1 .1 .1 .1 .1 .0 in (
       finished-as (v .set) (t .finished),
-      at-clear-work .clear-work .ensures
-          ∙ rest-cleared (a .w) (a .h) p (now (a .image)) (now (a .work)) _ w q (s .pre .0 .image ∙ sym q) (at-copy .copy .ensures) (t .rest),
+      (
+        at-clear-work .clear-work .ensures
+            ∙ rest-cleared (a .w) (a .h) p (now (a .image)) (now (a .work)) _ w q (s .pre .0 .image ∙ sym q) (at-copy .copy .ensures) (t .rest),
+        at-take-turns .take-turns .ensures .1,
+      ),
     )
 
 pub decompose-into-spec : {M : Type 1} → statement M

@@ -1,6 +1,7 @@
 -- `decomposition::take_turns` meets its contract.
--- The invariant: after n turns work and labels are as `Turns` says, and the rows that hold ink are those of the band. The measure is the larger side less n.
-use mathlib.Core.Path.{_∙_, _≡_, refl, subst, sym}
+-- The invariant: after n turns work and labels are as `Turns` says, the rows that hold ink are those of the band, and nothing fell off. The measure is the larger side less n.
+use mathlib.Core.Bool.{_||_, false}
+use mathlib.Core.Path.{_∙_, _≡_, ap₂, refl, subst, sym}
 use Prim.Native.Nat.{_*_, _-_, _<_, _≤_, max, ℕ}
 use native.Mathlib.Nat.{le-refl, mul-le-mul-right}
 use native.Mathlib.Omega.{arith}
@@ -20,11 +21,12 @@ use Rattle.decomposition.proofs.take_turns.Statement.{statement}
 use Rattle.decomposition.proofs.take_turns.Tie as tie
 
 abbrev Inv-loop : tie.InvT-loop
-Inv-loop w h r p element labels₀ work₀ points₀ n₀ from₀ to₀ labels work points n from to =
+Inv-loop w h r p element labels₀ work₀ points₀ clipped₀ n₀ from₀ to₀ labels work points clipped n from to =
     Turns w h p (offsets element) (imageSet w h work₀) n work₀ work labels points × (length labels ≡ length labels₀) × Banded h r from to (take p work)
+    × (clipped ≡ false)
 
 abbrev μ-loop : tie.MeasureT-loop
-μ-loop w h r p element labels₀ work₀ points₀ n₀ from₀ to₀ labels work points n from to = max w h - n
+μ-loop w h r p element labels₀ work₀ points₀ clipped₀ n₀ from₀ to₀ labels work points clipped n from to = max w h - n
 
 abbrev start : tie.At-loop Inv-loop μ-loop → tie.Start Inv-loop μ-loop
 start c = c .before .before .before .before .before .before .before
@@ -36,8 +38,8 @@ turn c = c .before
 abbrev begun : tie.After-turn-band Inv-loop μ-loop → tie.In-loop Inv-loop μ-loop
 begun c = c .before .before .before
 
-abbrev made : tie.After-slice-known4 Inv-loop μ-loop → tie.After-turn-band Inv-loop μ-loop
-made c = c .before .before .before .before
+abbrev made : tie.After-struct-known Inv-loop μ-loop → tie.After-turn-band Inv-loop μ-loop
+made c = c .before .before .before .before .before
 
 abbrev on : (c : tie.At-loop Inv-loop μ-loop) → OnFrame (start c .args .w) (start c .args .h)
     (imageSet (start c .args .w) (start c .args .h) (now (start c .args .work)))
@@ -96,6 +98,7 @@ loop-holds c =
           (s .pre .4),
       refl,
       banded-start (a .h) (a .r) _ _ (take (a .p) (now (a .work))) (at-first-row .first-row .ensures) (c .end-row .ensures),
+      refl,
     )
 
 add-turn-band : tie.Need-add-turn-band Inv-loop μ-loop
@@ -126,63 +129,64 @@ add-points c =
     let at-loop = turn (begun (made c)) in
     let s = start at-loop in
     let few = turns-found (s .args .element) (s .pre .0) (s .pre .5) (on at-loop) (at-loop .loop .inv .0) in
-    let new = stepped-le (made c .turn-band .ensures) in
+    let new = stepped-le (made c .turn-band .ensures .0) in
     omega (arith, mul-le-mul-right (s .args .h) (s .pre .0 .frame .across), s .pre .0 .frame .down)
 
 add-n : tie.Need-add-n Inv-loop μ-loop
 add-n c =
-    let in-loop = begun (made c) in
+    let in-loop = begun (made (c .before)) in
     omega (arith, below in-loop, start (turn in-loop) .pre .1, start (turn in-loop) .pre .2)
 
 slice-reshare-prefix-first-row-2 : tie.Need-slice-reshare-prefix-first-row-2 Inv-loop μ-loop
-slice-reshare-prefix-first-row-2 c = omega (arith, made c .turn-band .ensures .size, long (turn (begun (made c))))
+slice-reshare-prefix-first-row-2 c = omega (arith, made (c .before) .turn-band .ensures .0 .size, long (turn (begun (made (c .before)))))
 
 slice-aggregate-first-row-2 : tie.Need-slice-aggregate-first-row-2 Inv-loop μ-loop
 slice-aggregate-first-row-2 c =
-    let m = made (c .before) in
-    sym (length-take-le _ _ (omega (arith, m .turn-band .ensures .size, long (turn (begun m)))))
+    let m = made (c .before .before) in
+    sym (length-take-le _ _ (omega (arith, m .turn-band .ensures .0 .size, long (turn (begun m)))))
 
 first-row-requires-2 : tie.Need-first-row-requires-2 Inv-loop μ-loop
 first-row-requires-2 c κs =
-    let m = made (c .before) in
+    let m = made (c .before .before) in
     let at-loop = turn (begun m) in
     let l = at-loop .loop in
-    (omega (arith, l .inv .2 .order), sheet-rows (start at-loop .pre .0) (l .to) _ (l .inv .2 .down) (omega (arith, m .turn-band .ensures .size, long at-loop)))
+    (omega (arith, l .inv .2 .order), sheet-rows (start at-loop .pre .0) (l .to) _ (l .inv .2 .down) (omega (arith, m .turn-band .ensures .0 .size, long at-loop)))
 
 slice-reshare-prefix-end-row-2 : tie.Need-slice-reshare-prefix-end-row-2 Inv-loop μ-loop
-slice-reshare-prefix-end-row-2 c = omega (arith, made (c .before .before) .turn-band .ensures .size, long (turn (begun (made (c .before .before)))))
+slice-reshare-prefix-end-row-2 c = omega (arith, made (c .before .before .before) .turn-band .ensures .0 .size, long (turn (begun (made (c .before .before .before)))))
 
 slice-aggregate-end-row-2 : tie.Need-slice-aggregate-end-row-2 Inv-loop μ-loop
 slice-aggregate-end-row-2 c =
-    let m = made (c .before .before .before) in
-    sym (length-take-le _ _ (omega (arith, m .turn-band .ensures .size, long (turn (begun m)))))
+    let m = made (c .before .before .before .before) in
+    sym (length-take-le _ _ (omega (arith, m .turn-band .ensures .0 .size, long (turn (begun m)))))
 
 end-row-requires-2 : tie.Need-end-row-requires-2 Inv-loop μ-loop
 end-row-requires-2 c κs =
-    let m = made (c .before .before .before) in
+    let m = made (c .before .before .before .before) in
     let at-loop = turn (begun m) in
     let l = at-loop .loop in (
       c .before .first-row2 .ensures .to,
       sheet-rows (start at-loop .pre .0) (l .to) _ (l .inv .2 .down)
-          (omega (arith, m .turn-band .ensures .size, long at-loop)),
+          (omega (arith, m .turn-band .ensures .0 .size, long at-loop)),
     )
 
 loop-less : tie.Need-loop-less Inv-loop μ-loop
-loop-less c = omega (arith, below (begun (made (c .before .before .before .before))))
+loop-less c = omega (arith, below (begun (made (c .before .before .before .before .before))))
 
 loop-again : tie.Need-loop-again Inv-loop μ-loop
 loop-again c =
     let at-first-row2 = c .before .before in
-    let m = made (at-first-row2 .before .before) in
+    let m = made (at-first-row2 .before .before .before) in
     let at-loop = turn (begun m) in
     let s = start at-loop in
     let e = s .args .element in
     let l = at-loop .loop in
-    let d = stepped-as (sym (s .pre .0 .plane)) (m .turn-band .ensures) in (
+    let d = stepped-as (sym (s .pre .0 .plane)) (m .turn-band .ensures .0) in (
       turns-more e (s .pre .0) (s .pre .5) (on at-loop) (l .inv .0) d
           (turns-point e (s .pre .0) (s .pre .5) (on at-loop) (l .inv .0) (l .inv .2) (begun m .loop-test .taken)),
       d .points .size ∙ sym (turns-labels e (s .pre .0) (s .pre .5) (on at-loop) (l .inv .0)) ∙ l .inv .1,
       turns-band e (s .pre .0) (s .pre .5) (on at-loop) (l .inv .0) d (l .inv .2) (at-first-row2 .first-row2 .ensures) (c .end-row2 .ensures),
+      ap₂ _||_ (l .inv .3) (m .turn-band .ensures .1),
     )
 
 same-length : tie.Need-same-length Inv-loop μ-loop
@@ -195,7 +199,7 @@ returns : tie.Need-returns Inv-loop μ-loop
 returns c =
     let at-loop = c .before in
     let s = start at-loop in
-    turns-over (s .args .element) (s .pre .0) (s .pre .5) (on at-loop) (at-loop .loop .inv .0) (at-loop .loop .inv .2) (omega arith)
+    (turns-over (s .args .element) (s .pre .0) (s .pre .5) (on at-loop) (at-loop .loop .inv .0) (at-loop .loop .inv .2) (omega arith), at-loop .loop .inv .3)
 
 pub take-turns-spec : {M : Type 1} → statement M
 take-turns-spec =

@@ -39,8 +39,11 @@ returns c =
     let at-open-plane = at-label-plane .before .before .before .before .before in
     let s = start (at-open-plane .before) in
     let a = s .args in
-    turn-done (a .w) (a .h) (a .r) (a .p) (a .element) (now (a .work)) (s .pre .frame) (s .pre .apart) (s .pre .planes) _ _ (now (a .labels)) _ (a .v) _
-    (at-open-plane .open-plane .ensures) (at-label-plane .label-plane .ensures) (at-copy-down .copy-down .ensures)
+    let o = at-open-plane .open-plane .ensures in (
+      turn-done (a .w) (a .h) (a .r) (a .p) (a .element) (now (a .work)) (s .pre .frame) (s .pre .apart) (s .pre .planes) _ _ (now (a .labels)) _ (a .v) _
+          (o .0) (at-label-plane .label-plane .ensures) (at-copy-down .copy-down .ensures),
+      o .1,
+    )
 
 pub turn-spec : {M : Type 1} → statement M
 turn-spec =

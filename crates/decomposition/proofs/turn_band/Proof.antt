@@ -106,9 +106,11 @@ returns c =
     let a = s .args in
     let b = s .pre .0 in
     let three : 3 * (a .h * a .r) ≤ length (now (a .work)) = omega (arith, b .planes) in
-    let bytes : (i : ℕ) → getD (now (a .work)) i 0 < 256 = λ i. at-slice-known2 .slice-known2 .given i .fits in
-    band-stepped (a .w) (a .h) (a .r) (a .from) (a .to) (a .element) (now (a .work)) (b .frame) three (b .element) bytes (b .clean) (s .pre .1) _ refl
-    (a .v) _ (a .from * a .w + (a .to - a .from) * a .w - a .from * a .w) _ (now (a .labels)) _ (omega arith) (b .places) (at-turn .turn .ensures)
+    let bytes : (i : ℕ) → getD (now (a .work)) i 0 < 256 = λ i. at-slice-known2 .slice-known2 .given i .fits in (
+      band-stepped (a .w) (a .h) (a .r) (a .from) (a .to) (a .element) (now (a .work)) (b .frame) three (b .element) bytes (b .clean) (s .pre .1) _ refl
+          (a .v) _ (a .from * a .w + (a .to - a .from) * a .w - a .from * a .w) _ (now (a .labels)) _ (omega arith) (b .places) (at-turn .turn .ensures .0),
+      at-turn .turn .ensures .1,
+    )
 
 pub turn-band-spec : {M : Type 1} → statement M
 turn-band-spec =

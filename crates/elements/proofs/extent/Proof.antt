@@ -1,69 +1,34 @@
 -- `elements::extent` meets its contract.
--- The invariant: rest is the element without its lowest i bits, and far is how far the offsets of those bits go. The measure is 25 less i.
-use mathlib.Core.Path.{_∙_, _≡_, ap}
-use Prim.Native.Nat.{_-_, _/_, _^_, _≤_, ℕ}
-use native.Mathlib.Omega.{arith}
 use borrow.Author.Needs.{needs}
-use lib.Pow.{shr-shr}
-use Rattle.elements.proofs.ExtentLaws.{Far, far-done, far-start, far-turn}
+use Rattle.elements.proofs.ExtentLaws.{extent-none, extent-one, extent-two}
 use Rattle.elements.proofs.extent.Statement.{statement}
 use Rattle.elements.proofs.extent.Tie as tie
 
-abbrev Inv-loop : tie.InvT-loop
-Inv-loop element across forward far₀ rest₀ i₀ far rest i = (i ≤ 25) × (rest ≡ element / 2 ^ i) × Far across forward element i far
+outer-requires : tie.Need-outer-requires
+outer-requires c κs = search needs
 
-abbrev μ-loop : tie.MeasureT-loop
-μ-loop element across forward far₀ rest₀ i₀ far rest i = 25 - i
-
-loop-holds : tie.Need-loop-holds Inv-loop μ-loop
-loop-holds c = let a = c .args in (omega arith, omega arith, far-start (a .across) (a .forward) (a .element))
-
-coordinate-requires : tie.Need-coordinate-requires Inv-loop μ-loop
-coordinate-requires c κs = search needs
-
-reach-requires : tie.Need-reach-requires Inv-loop μ-loop
-reach-requires c κs = search needs
-
-farther-requires : tie.Need-farther-requires Inv-loop μ-loop
-farther-requires c κs = search needs
-
-add-i : tie.Need-add-i Inv-loop μ-loop
-add-i c = omega arith
-
-loop-less : tie.Need-loop-less Inv-loop μ-loop
-loop-less c = omega arith
-
-loop-again : tie.Need-loop-again Inv-loop μ-loop
-loop-again c =
-    let at-coordinate = c .before .before in
-    let at-loop = at-coordinate .before .before in
-    let s = at-loop .before in
-    let a = s .args in
-    let l = at-loop .loop in (
-      omega arith,
-      ap (λ (n : ℕ). n / 2) (l .inv .1) ∙ shr-shr (a .element) (l .i) 1,
-      far-turn (a .across) (a .forward) (a .element) (l .i) (l .rest) (l .far) _ _ _ (omega arith) (l .inv .1) (l .inv .2) (at-coordinate .coordinate .ensures)
-          (c .before .reach .ensures) (c .farther .ensures),
-    )
-
-returns : tie.Need-returns Inv-loop μ-loop
+returns : tie.Need-returns
 returns c =
-    let s = c .before .before in
-    let a = s .args in
-    let l = c .before .loop in
-    far-done (a .across) (a .forward) (a .element) (l .i) (l .far) (omega arith) (l .inv .2)
+    let at-outer = c .before in
+    let a = at-outer .before .args in
+    extent-two (a .across) (a .forward) (a .element) _ (at-outer .outer .ensures) (c .if1 .taken)
+
+inner-requires : tie.Need-inner-requires
+inner-requires c κs = search needs
+
+returns-2 : tie.Need-returns-2
+returns-2 c =
+    let missed = c .before .before in
+    let at-outer = missed .before in
+    let a = at-outer .before .args in
+    extent-one (a .across) (a .forward) (a .element) _ (at-outer .outer .ensures) _ (c .before .inner .ensures) (missed .if1 .left) (c .if2 .taken)
+
+returns-3 : tie.Need-returns-3
+returns-3 c =
+    let missed = c .before .before in
+    let at-outer = missed .before in
+    let a = at-outer .before .args in
+    extent-none (a .across) (a .forward) (a .element) _ (at-outer .outer .ensures) _ (c .before .inner .ensures) (missed .if1 .left) (c .if2 .left)
 
 pub extent-spec : {M : Type 1} → statement M
-extent-spec =
-    tie.close
-    (tie.spec
-    Inv-loop
-    μ-loop
-    loop-holds
-    coordinate-requires
-    reach-requires
-    farther-requires
-    add-i
-    loop-less
-    loop-again
-    returns)
+extent-spec = tie.close (tie.spec outer-requires returns inner-requires returns-2 returns-3)

@@ -34,10 +34,10 @@ walk-plane-requires c κs =
       t .frame,
       omega (arith, t .apart),
       search needs,
-      opened-clean (a .w) (a .h) (a .r) (a .p) (a .element) (now (a .work)) (t .frame) (t .apart) (t .planes) _ (o .open-plane .ensures),
+      opened-clean (a .w) (a .h) (a .r) (a .p) (a .element) (now (a .work)) (t .frame) (t .apart) (t .planes) _ (o .open-plane .ensures .0),
       s .pre .1,
       subst (λ (rs : List ℕ). PenRoom (a .down) (now (a .out)) (a .at) rs)
-          (sym (opened-runs (a .w) (a .h) (a .r) (a .p) (a .element) (now (a .work)) (t .frame) (t .apart) (t .planes) _ (o .open-plane .ensures) (a .before)))
+          (sym (opened-runs (a .w) (a .h) (a .r) (a .p) (a .element) (now (a .work)) (t .frame) (t .apart) (t .planes) _ (o .open-plane .ensures .0) (a .before)))
           (s .pre .2),
     )
 
@@ -62,10 +62,10 @@ returns c =
     let a = s .args in
     let t = s .pre .0 in
     record {
-      planes = opened-down (a .w) (a .h) (a .r) (a .p) (a .element) (now (a .work)) (t .frame) (t .apart) (t .planes) _ (o .open-plane .ensures) _
+      planes = opened-down (a .w) (a .h) (a .r) (a .p) (a .element) (now (a .work)) (t .frame) (t .apart) (t .planes) _ (o .open-plane .ensures .0) _
           (d .copy-down .ensures);
       runs = marked-as
-          (opened-runs (a .w) (a .h) (a .r) (a .p) (a .element) (now (a .work)) (t .frame) (t .apart) (t .planes) _ (o .open-plane .ensures) (a .before))
+          (opened-runs (a .w) (a .h) (a .r) (a .p) (a .element) (now (a .work)) (t .frame) (t .apart) (t .planes) _ (o .open-plane .ensures .0) (a .before))
           (k .walk-plane .ensures);
     }
 

@@ -24,8 +24,11 @@ returns c =
     let at-dilate-plane = at-copy-down .before .before .before .before in
     let s = at-dilate-plane .before .before .before in
     let a = s .args in
-    step-done (a .w) (a .h) (a .p) _ (now (a .work)) (at-dilate-plane .dilate-plane .last .1 .1 .1 .1 .1 .0) _ (sheet-bytes (s .pre .0)) (s .pre .1)
-    (at-dilate-plane .dilate-plane .ensures) (at-copy-down .copy-down .ensures)
+    let d = at-dilate-plane .dilate-plane .ensures in (
+      step-done (a .w) (a .h) (a .p) _ (now (a .work)) (at-dilate-plane .dilate-plane .last .1 .1 .1 .1 .1 .0) _ (sheet-bytes (s .pre .0)) (s .pre .1) (d .0)
+          (at-copy-down .copy-down .ensures),
+      d .1,
+    )
 
 pub dilate-step-spec : {M : Type 1} → statement M
 dilate-step-spec =

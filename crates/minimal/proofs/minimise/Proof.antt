@@ -43,7 +43,7 @@ returns-2 c =
     let b = f .before .before .before .before in
     let a = b .before .before .before .before .before .before .before .before .args in
     minimise-done (a .w) (a .h) (a .element) (now (a .labels)) (now (a .work)) (now (a .counters)) _ (b .before .minimise-refusal .ensures) _ _ _ _ (b .if1 .left)
-    (f .minimise-into .ensures)
+    (f .minimise-into .ensures .0)
 
 pub minimise-spec : {M : Type 1} → statement M
 minimise-spec =

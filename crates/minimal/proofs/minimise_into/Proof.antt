@@ -1,6 +1,7 @@
 -- `minimal::minimise_into` meets its contract.
--- What the rows of refusals let pass begins the count; the walk begins with what that leaves; counters and work are cleared.
-use mathlib.Core.Path.{_∙_, ap, refl}
+-- What the rows of refusals let pass begins the count; the walk begins with what that leaves; counters and work are cleared. Neither clips a shape.
+use mathlib.Core.Bool.{Bool, _||_}
+use mathlib.Core.Path.{_∙_, ap, ap₂, refl}
 use Prim.Native.Nat.{ℕ}
 use native.Mathlib.Omega.{arith}
 use borrow.Author.Needs.{needs}
@@ -68,7 +69,7 @@ walk-requires c κs =
     let t = at-tallest .tallest in
     let u = at-count-up .count-up .ensures in (
       passed-begun (s .pre) (t .result) _ (t .ensures .0) (t .ensures .1)
-          (omega (arith, at-slice-known4 .slice-known4 .given (t .result))) (u .1 .size),
+          (omega (arith, at-slice-known4 .slice-known4 .given (t .result))) (u .1 .0 .size),
       u .0,
     )
 
@@ -81,8 +82,7 @@ clear-work-requires c κs =
     let at-count-up = to-count-up (at-walk .before) in
     let s = start (at-count-up .before) in
     let a = s .args in (
-      passed-planes (s .pre) _ _ (at-count-up .count-up .ensures .1)
-          (at-walk .walk .ensures .1),
+      passed-planes (s .pre) _ _ (at-count-up .count-up .ensures .1 .0) (at-walk .walk .ensures .1 .0),
       sheet-small (passed-sheet (s .pre)),
     )
 
@@ -116,15 +116,16 @@ returns c =
     let s = start (at-count-up .before) in
     let a = s .args in
     let w = at-walk .walk in
-    let u = at-count-up .count-up in
-    record {
-      labels = w .ensures .0;
-      points = c .points-of .ensures;
-      work = passed-cleared (s .pre) _ _ _ (u .ensures .1) (w .ensures .1)
-          (at-clear-work .clear-work .ensures);
-      counters = at-clear .clear .ensures ∙ ap (λ (n : ℕ). replicate n 0)
-          (w .kept .1 .1 .1 .1 .1 .1 .1 .1 .1 .0 ∙ u .kept .1 .1 .1 .1 .1 .1 .1 .1 .1 .0 ∙ s .pre .counters);
-    }
+    let u = at-count-up .count-up in (
+      record {
+        labels = w .ensures .0;
+        points = c .points-of .ensures;
+        work = passed-cleared (s .pre) _ _ _ (u .ensures .1 .0) (w .ensures .1 .0) (at-clear-work .clear-work .ensures);
+        counters = at-clear .clear .ensures ∙ ap (λ (n : ℕ). replicate n 0)
+            (w .kept .1 .1 .1 .1 .1 .1 .1 .1 .1 .0 ∙ u .kept .1 .1 .1 .1 .1 .1 .1 .1 .1 .0 ∙ s .pre .counters);
+      },
+      ap₂ (λ (x y : Bool). x || y) (u .ensures .1 .1) (w .ensures .1 .1),
+    )
 
 pub minimise-into-spec : {M : Type 1} → statement M
 minimise-into-spec =

@@ -1,7 +1,7 @@
 -- `planes::morph_plane` meets its contract.
 use borrow.Author.Needs.{needs}
 use denote.Ref.{now}
-use Rattle.planes.proofs.CentreLaws.{plane-done}
+use Rattle.planes.proofs.CentreLaws.{plane-joined}
 use Rattle.planes.proofs.morph_plane.Statement.{statement}
 use Rattle.planes.proofs.morph_plane.Tie as tie
 
@@ -14,17 +14,15 @@ slice-aggregate-join-plane c = search needs
 join-plane-requires : tie.Need-join-plane-requires
 join-plane-requires c κs = search needs
 
-clear-rows-requires : tie.Need-clear-rows-requires
-clear-rows-requires c κs = search needs
-
 same-length : tie.Need-same-length
 same-length c = search needs
 
 returns : tie.Need-returns
 returns c =
-    let s = c .before .before .before .before .before .before .before .before .before .before .before .before .before .before in
+    let s = c .before .before .before .before .before .before .before .before .before .before in
     let a = s .args in
-    plane-done (a .dilating) (a .p) (a .r) (a .h) (a .w) (a .element) _ (now (a .work)) _ _ _ (s .pre .0) (c .before .before .before .before .before .before .before .before .before .before .before .begin-plane .ensures (a .dilating)) (c .before .before .before .before .before .before .join-plane .ensures) (c .before .before .clear-rows .ensures)
+    plane-joined (a .dilating) (a .p) (a .r) (a .h) (a .element) _ (now (a .work)) _ _ (s .pre .0)
+    (c .before .before .before .before .before .before .before .begin-plane .ensures (a .dilating)) (c .before .before .join-plane .ensures)
 
 pub morph-plane-spec : {M : Type 1} → statement M
 morph-plane-spec =
@@ -33,6 +31,5 @@ morph-plane-spec =
     begin-plane-requires
     slice-aggregate-join-plane
     join-plane-requires
-    clear-rows-requires
     same-length
     returns)

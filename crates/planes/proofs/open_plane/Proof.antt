@@ -1,8 +1,8 @@
 -- `planes::open_plane` meets its contract.
-use mathlib.Core.Path.{refl}
+use mathlib.Core.Path.{_∙_, refl}
 use borrow.Author.Needs.{needs}
 use denote.Ref.{now}
-use Rattle.planes.proofs.PlaneLaws.{open-done, rest-clean, rest-long}
+use Rattle.planes.proofs.PlaneLaws.{open-done, open-stays, rest-clean, rest-long}
 use Rattle.planes.proofs.open_plane.Statement.{statement}
 use Rattle.planes.proofs.open_plane.Tie as tie
 
@@ -39,7 +39,11 @@ returns c =
     let s = c .before .before .before .before .before .before .before .before .before in
     let a = s .args in
     let v = c .before .before .before .before .before .before .erode-plane .last .1 .1 .1 .1 .1 .0 in
-    open-done (a .w) (a .h) (a .r) (a .p) (a .element) (now (a .work)) v _ (s .pre .0) (s .pre .1) (s .pre .2) (s .pre .3) (c .before .before .before .before .before .before .erode-plane .ensures) refl _ (c .before .before .dilate-plane .ensures)
+    let e = c .before .before .before .before .before .before .erode-plane .ensures in
+    let d = c .before .before .dilate-plane .ensures in (
+      open-done (a .w) (a .h) (a .r) (a .p) (a .element) (now (a .work)) v _ (s .pre .0) (s .pre .1) (s .pre .2) (s .pre .3) e refl _ (d .0),
+      d .1 ∙ open-stays (a .w) (a .h) (a .r) (a .p) (a .element) (now (a .work)) v _ (s .pre .0) (s .pre .1) (s .pre .2) (s .pre .3) e refl,
+    )
 
 pub open-plane-spec : {M : Type 1} → statement M
 open-plane-spec =

@@ -28,16 +28,16 @@ slice-aggregate-add-points : tie.Need-slice-aggregate-add-points
 slice-aggregate-add-points c =
     let at-dilate-times = to-dilate-times c in
     let s = start at-dilate-times in
-    sym (length-take-le (s .args .p) _ (omega (arith, s .pre .planes, at-dilate-times .dilate-times .ensures .size)))
+    sym (length-take-le (s .args .p) _ (omega (arith, s .pre .planes, at-dilate-times .dilate-times .ensures .0 .size)))
 
 add-points-requires : tie.Need-add-points-requires
 add-points-requires c κs =
     let at-dilate-times = to-dilate-times c in
     let s = start at-dilate-times in
     let a = s .args in
-    let e = at-dilate-times .dilate-times .ensures in
+    let e = at-dilate-times .dilate-times .ensures .0 in
     let q = sheet-bytes (s .pre .sheet) in
-    let on = dilated-on (a .w) (a .h) (offsets (a .element)) _ (imageSet (a .w) (a .h) (now (a .work))) (image-on (a .w) (a .h) (now (a .work))) in (
+    let on = dilated-on (a .w) (a .h) (offsets (a .element)) 1 (imageSet (a .w) (a .h) (now (a .work))) (image-on (a .w) (a .h) (now (a .work))) in (
       s .pre .sheet .frame,
       omega (arith, s .pre .label),
       s .pre .places,
@@ -59,10 +59,10 @@ returns c =
     let at-dilate-times = to-dilate-times (at-add-points .before) in
     let s = start at-dilate-times in
     let a = s .args in
-    let on = dilated-on (a .w) (a .h) (offsets (a .element)) _ (imageSet (a .w) (a .h) (now (a .work))) (image-on (a .w) (a .h) (now (a .work))) in (
-      joined-first (a .w) (a .h) (a .p) (sheet-bytes (s .pre .sheet)) _ on (now (a .work)) _ (s .pre .planes) (at-dilate-times .dilate-times .ensures)
+    let on = dilated-on (a .w) (a .h) (offsets (a .element)) 1 (imageSet (a .w) (a .h) (now (a .work))) (image-on (a .w) (a .h) (now (a .work))) in (
+      joined-first (a .w) (a .h) (a .p) (sheet-bytes (s .pre .sheet)) _ on (now (a .work)) _ (s .pre .planes) (at-dilate-times .dilate-times .ensures .0)
           (now (a .labels)) (a .v) _ (at-add-points .add-points .ensures .0),
-      at-add-points .add-points .ensures .1,
+      (at-add-points .add-points .ensures .1, at-dilate-times .dilate-times .ensures .1),
     )
 
 pub grow-spec : {M : Type 1} → statement M

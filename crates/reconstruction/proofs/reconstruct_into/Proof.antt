@@ -1,5 +1,6 @@
 -- `reconstruction::reconstruct_into` meets its contract. The labels gathered in an emptied plane, dilated as often as the cut says, are handed out; work is cleared.
-use mathlib.Core.Path.{_∙_, sym}
+use mathlib.Core.Bool.{_||_}
+use mathlib.Core.Path.{_∙_, ap₂, sym}
 use Prim.Native.Nat.{_*_, _+_, _/_, ℕ}
 use native.Mathlib.Omega.{arith}
 use borrow.Author.Needs.{needs}
@@ -9,7 +10,7 @@ use lib.Seq.{length-take-le}
 use Rattle.morphology.specs.Element.{offsets}
 use Rattle.morphology.specs.Skeleton.{reconstruction}
 use Rattle.iteration.proofs.StepLaws.{frame-sheet, sheet-bytes, sheet-small, wrote}
-use Rattle.reconstruction.proofs.GatherLaws.{emptied, gathered-cleans, gathered-dilated, kept-on}
+use Rattle.reconstruction.proofs.GatherLaws.{emptied, gathered-cleans, gathered-dilated, kept-on, last-stays}
 use Rattle.reconstruction.proofs.reconstruct_into.Statement.{statement}
 use Rattle.reconstruction.proofs.reconstruct_into.Tie as tie
 
@@ -69,7 +70,7 @@ dilate-times-requires c κs =
     let p = a .h * ((a .w + 7) / 8) in
     let q = sheet-bytes (frame-sheet (s .pre .frame)) in
     let v = emptied p (now (a .work)) _ (omega (arith, s .pre .work, q)) (at-fill .fill .ensures) in
-    let g = at-gather .gather .ensures in (
+    let g = at-gather .gather .ensures .0 in (
       frame-sheet (s .pre .frame),
       omega (arith, v .size, g .size, s .pre .work, q),
       s .pre .labels .element,
@@ -86,7 +87,7 @@ hand-out-requires c κs =
     let p = a .h * ((a .w + 7) / 8) in
     let q = sheet-bytes (frame-sheet (s .pre .frame)) in
     let v = emptied p (now (a .work)) _ (omega (arith, s .pre .work, q)) (at-fill .fill .ensures) in (
-      omega (arith, v .size, at-gather .gather .ensures .size, at-dilate-times .dilate-times .ensures .size, s .pre .work, q),
+      omega (arith, v .size, at-gather .gather .ensures .0 .size, at-dilate-times .dilate-times .ensures .0 .size, s .pre .work, q),
       s .pre .image ∙ sym q,
       sheet-small (frame-sheet (s .pre .frame)),
     )
@@ -109,10 +110,14 @@ returns c =
     let q = sheet-bytes (frame-sheet (s .pre .frame)) in
     let v = emptied p (now (a .work)) _ (omega (arith, s .pre .work, q)) (at-fill .fill .ensures) in
     let t = s .pre .labels in
-    wrote (a .w) (a .h) p _ (reconstruction (a .w) (a .h) (offsets (a .element)) (a .cut) (now (a .labels))) (replicate p 0) (now (a .work)) _ _ _ _ q
-    (kept-on (a .w) (a .h) p (a .element) (a .cut) q (now (a .labels)) t) (length-replicate {A = ℕ} p 0) (v .zeros)
-    (gathered-dilated (a .w) (a .h) p (a .element) (a .cut) q (now (a .labels)) t _ _ _ (at-gather .gather .ensures) (at-dilate-times .dilate-times .ensures))
-    (at-hand-out .hand-out .ensures)
+    let g = at-gather .gather .ensures in
+    let d = at-dilate-times .dilate-times .ensures in
+    let stays = last-stays (a .w) (a .h) p (a .element) (a .cut) q (now (a .labels)) t _ _ (g .0) in (
+      wrote (a .w) (a .h) p _ (reconstruction (a .w) (a .h) (offsets (a .element)) (a .cut) (now (a .labels))) (replicate p 0) (now (a .work)) _ _ _ _ q
+          (kept-on (a .w) (a .h) p (a .element) (a .cut) q (now (a .labels)) t) (length-replicate {A = ℕ} p 0) (v .zeros)
+          (gathered-dilated (a .w) (a .h) p (a .element) (a .cut) q (now (a .labels)) t _ _ _ (g .0) stays (d .0)) (at-hand-out .hand-out .ensures),
+      ap₂ _||_ (g .1) (d .1 ∙ stays),
+    )
 
 pub reconstruct-into-spec : {M : Type 1} → statement M
 reconstruct-into-spec =

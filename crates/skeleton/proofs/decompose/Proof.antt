@@ -53,7 +53,7 @@ returns-2 c =
     let d = f .decompose-into in
     let r = decompose-ready (a .w) (a .h) (a .element) (now (a .image)) (now (a .labels)) (now (a .work)) e (b .if1 .left) in
     finished-outcome (a .w) (a .h) (a .element) (r .4) (now (a .image)) (now (a .labels)) (now (a .work)) _ _ _ (d .result .turns) (d .result .points) _
-    e (b .if1 .left) (d .ensures .0) (d .ensures .1) (sym (turns-blank (d .result .turns) (d .result .points) (c .if2 .taken)))
+    e (b .if1 .left) (d .ensures .0) (d .ensures .1 .0) (sym (turns-blank (d .result .turns) (d .result .points) (c .if2 .taken)))
 
 sub-t21 : tie.Need-sub-t21
 sub-t21 c = search needs
@@ -73,7 +73,7 @@ returns-3 c =
     let d = f .decompose-into in
     let r = decompose-ready (a .w) (a .h) (a .element) (now (a .image)) (now (a .labels)) (now (a .work)) e (b .if1 .left) in
     finished-outcome (a .w) (a .h) (a .element) (r .4) (now (a .image)) (now (a .labels)) (now (a .work)) _ _ _ (d .result .turns) (d .result .points) _
-    e (b .if1 .left) (d .ensures .0) (d .ensures .1) (sym (turns-skeleton (d .result .turns) (d .result .points) (pos-of-ne-zero (c .if2 .left))))
+    e (b .if1 .left) (d .ensures .0) (d .ensures .1 .0) (sym (turns-skeleton (d .result .turns) (d .result .points) (pos-of-ne-zero (c .if2 .left))))
 
 pub decompose-spec : {M : Type 1} → statement M
 decompose-spec =

@@ -7,14 +7,15 @@ use borrow.Author.Needs.{needs}
 use denote.Ref.{now}
 use lib.Seq.{length-take-le}
 use Rattle.morphology.specs.Element.{offsets}
+use Rattle.morphology.specs.Falls.{fallsOff}
 use Rattle.morphology.specs.Image.{imageSet, pack}
 use Rattle.morphology.specs.Morphology.{dilate, erode, times}
 use Rattle.morphology.specs.Point.{Point}
 use Rattle.morphology.proofs.DecomposeLaws.{eroded-on}
 use Rattle.morphology.proofs.ElementLaws.{element}
-use Rattle.morphology.proofs.FoldTurns.{opened-on}
+use Rattle.morphology.proofs.FallsLaws.{falls-on}
 use Rattle.morphology.proofs.ImageLaws.{image-on}
-use Rattle.iteration.proofs.StepLaws.{first-as, first-clean, folded-first, frame-sheet, loaded, sheet-bytes, sheet-small, wrote}
+use Rattle.iteration.proofs.StepLaws.{first-as, first-clean, first-image, folded-first, folded-stays, frame-sheet, loaded, sheet-bytes, sheet-small, wrote}
 use Rattle.skeleton.proofs.fold_into.Statement.{statement}
 use Rattle.skeleton.proofs.fold_into.Tie as tie
 
@@ -83,7 +84,7 @@ hand-out-requires c κs =
     let k = frame-sheet (s .pre .0 .frame) in
     let q = sheet-bytes k in
     let v = loaded (a .w) (a .h) (a .h * ((a .w + 7) / 8)) (now (a .image)) (now (a .out)) (now (a .work)) _ q (s .pre .0) (b .copy .ensures) in
-    (omega (arith, v .size, d .erode-times .ensures .size, f .dilate-times .ensures .size, s .pre .0 .work, q), s .pre .0 .out ∙ sym q, sheet-small k)
+    (omega (arith, v .size, d .erode-times .ensures .size, f .dilate-times .ensures .0 .size, s .pre .0 .work, q), s .pre .0 .out ∙ sym q, sheet-small k)
 
 same-length : tie.Need-same-length
 same-length c = search needs
@@ -93,8 +94,8 @@ same-length-2 c = search needs
 
 returns : tie.Need-returns
 returns c =
-    let o = c .before .before .before .before in
-    let f = o .before .before .before .before .before in
+    let h = c .before .before .before .before in
+    let f = h .before .before .before .before .before in
     let d = f .before .before .before .before in
     let b = d .before .before .before .before in
     let s = b .before .before .before .before .before in
@@ -106,10 +107,14 @@ returns c =
     let X = imageSet (a .w) (a .h) (now (a .image)) in
     let on = image-on (a .w) (a .h) (now (a .image)) in
     let m = first-as (ap (λ (Y : Point → Bool). pack (a .w) (a .h) (erode (times B (a .erosions)) Y)) (v .set)) (d .erode-times .ensures) in
-    wrote (a .w) (a .h) p _ (dilate (times B (a .dilations)) (erode (times B (a .erosions)) X)) (now (a .image)) (now (a .work)) _ _ _ _ q
-    (opened-on (a .w) (a .h) B (element (a .element) (s .pre .1)) X on (a .erosions) (a .dilations) (s .pre .2)) (s .pre .0 .image ∙ sym q) (b .copy .ensures)
-    (folded-first (a .w) (a .h) p (a .element) (a .erosions) (a .dilations) (s .pre .1) X _ _ _ (s .pre .2) q on m (f .dilate-times .ensures))
-    (o .hand-out .ensures)
+    let o = eroded-on (a .w) (a .h) B (element (a .element) (s .pre .1)) X on (a .erosions) in
+    let stays = folded-stays (a .w) (a .h) (a .element) (a .erosions) (a .dilations) (s .pre .1) X (s .pre .2) on in (
+      wrote (a .w) (a .h) p _ (dilate (times B (a .dilations)) (erode (times B (a .erosions)) X)) (now (a .image)) (now (a .work)) _ _ _ _ q
+          (falls-on (a .w) (a .h) (times B (a .dilations)) (erode (times B (a .erosions)) X) o stays) (s .pre .0 .image ∙ sym q) (b .copy .ensures)
+          (folded-first (a .w) (a .h) p (a .element) (a .erosions) (a .dilations) (s .pre .1) X _ _ _ q on stays m (f .dilate-times .ensures .0))
+          (h .hand-out .ensures),
+      f .dilate-times .ensures .1 ∙ ap (fallsOff (a .w) (a .h) (times B (a .dilations))) (first-image q o m) ∙ stays,
+    )
 
 pub fold-into-spec : {M : Type 1} → statement M
 fold-into-spec =

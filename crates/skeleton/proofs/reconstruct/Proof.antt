@@ -48,7 +48,7 @@ returns-2 c =
     let a = b .before .before .before .before .before .before .before .args in
     writes-done (reconstructRows (a .w) (a .h) (a .element) (a .cut) (now (a .labels)) (now (a .image)) (now (a .work))) (a .w) (a .h)
     (reconstruction (a .w) (a .h) (offsets (a .element)) (a .cut) (now (a .labels))) (now (a .image)) (now (a .work)) _ _ _ _
-    (b .before .reconstruct-refusal .ensures) (b .if1 .left) (f .reconstruct-into .ensures)
+    (b .before .reconstruct-refusal .ensures) (b .if1 .left) (f .reconstruct-into .ensures .0)
 
 pub reconstruct-spec : {M : Type 1} → statement M
 reconstruct-spec =

@@ -135,6 +135,13 @@ impl Block {
         self.decode("own", (mark, stream));
     }
 
+    #[rustfmt::skip]
+    fn dilate(&mut self, image: &[u8]) {
+        let (w, h, element, image) = (self.w, self.h, self.element, image.to_vec());
+        let (out, work) = (self.image(), self.work());
+        self.add("", Call::Dilate { w, h, element, image, out, work });
+    }
+
     /// Hit-or-miss by the house set and two other masks; thinning.
     #[rustfmt::skip]
     fn hit_or_miss_and_thin(&mut self, image: &[u8]) {
@@ -196,7 +203,10 @@ fn agree(replay: &mut Replay, met: &mut Met, block: &Block) {
     for (((_, call), kind), answer) in block.calls.iter().zip(&block.kinds).zip(answers) {
         let answered = match answer {
             Refused(_) => "refused",
-            Area(0) | Answer::Blank | Answer::Minimal(0) => "blank",
+            Area(0) | Answer::Blank | Answer::Minimal(0) | Answer::Dilated { area: 0, .. } => {
+                "blank"
+            }
+            Answer::Dilated { fell: true, .. } => "fell",
             _ => "ink",
         };
         *met.entry((call.name(), kind, answered)).or_default() += 1;
@@ -238,6 +248,7 @@ fn every_kind_of_image() {
             block.decode_about(&image);
             let (w, h, element) = (block.w, block.h, block.element);
             block.decode("minimal", ticket_of_labels(w, h, element, &minimal));
+            block.dilate(&image);
             agree(&mut replay, &mut met, &block);
         }
         let least = if kind == IMAGE_KINDS[0] { 0 } else { 10 };
@@ -262,6 +273,9 @@ fn every_kind_of_image() {
         reached(&met, operation, "", "blank");
     }
     reached(&met, "thin", "", "ink");
+    for answered in ["ink", "fell", "blank"] {
+        reached(&met, "dilate", "", answered);
+    }
     for output in ["exactly enough", "longer", "far longer"] {
         reached(&met, "encode", output, "ink");
         assert!(!met.contains_key(&("encode", output, "refused")));

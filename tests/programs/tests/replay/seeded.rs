@@ -41,8 +41,11 @@ fn seeded_calls() {
                 return count(operation, "row", *row as u32);
             }
             count(operation, "row", 0);
-            if let Answer::Blank | Answer::Area(0) = answer {
+            if let Answer::Blank | Answer::Area(0) | Answer::Dilated { area: 0, .. } = answer {
                 count(operation, "blank", 0);
+            }
+            if let Answer::Dilated { fell, .. } = answer {
+                count(operation, "fell", *fell as u32);
             }
             if let (Answer::Coded { bytes, .. }, Some(out)) = (answer, p.stream) {
                 let kind = match out.len() - *bytes as usize {
@@ -69,7 +72,7 @@ fn seeded_calls() {
         let name = OPERATIONS[operation];
         assert!(times >= least, "{name}: {what} {value}: {times} times");
     };
-    let rows: [&[u32]; 9] = [
+    let rows: [&[u32]; 10] = [
         &[0, 1, 2, 3, 4, 7],
         &[0, 1, 2, 3, 4, 7],
         &[0, 1, 2, 3, 4],
@@ -79,6 +82,7 @@ fn seeded_calls() {
         &[0, 1, 3, 4],
         &[0, 1, 2, 3, 4, 8],
         &[0, 1, 2, 3, 9, 10, 11],
+        &[0, 1, 2, 3, 4],
     ];
     for (operation, rows) in rows.iter().enumerate() {
         rows.iter()
@@ -88,7 +92,7 @@ fn seeded_calls() {
             reached(operation, "height", side, 3);
         }
     }
-    for operation in [0, 1, 2, 3, 4, 7, 8] {
+    for operation in [0, 1, 2, 3, 4, 7, 8, 9] {
         (2..=25).for_each(|points| reached(operation, "points", points, 5));
         for element in [473536, 145536, 15728622, 12288, 6144] {
             reached(operation, "element", element, 50);
@@ -98,6 +102,9 @@ fn seeded_calls() {
         reached(7, what, 0, 50);
     }
     reached(8, "blank", 0, 50);
+    reached(9, "blank", 0, 50);
+    reached(9, "fell", 0, 500);
+    reached(9, "fell", 1, 500);
     for largest in (0..10).chain([254, 255, 256, u32::MAX]) {
         reached(8, "largest size", largest, 20);
     }

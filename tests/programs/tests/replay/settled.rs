@@ -1,10 +1,10 @@
-//! The cases A to M of 01, J and K as T-04 has them and L as T-05 has it, and the codes of 02,
-//! written and read, from the tables that the second program is held to, and what a cut makes of
-//! shortened labels.
+//! The cases A to M of 01, J and K as T-04 has them and L as T-05 has it, the codes of 02, written
+//! and read, and the dilations of T-06, from the tables that the second program is held to, and
+//! what a cut makes of shortened labels.
 
 use programs::format::{Message, Reply};
 use programs::replay::Replay;
-use reference::cases::{coded, readings, settled, shortened_at_a_cut, Call};
+use reference::cases::{coded, dilated, readings, settled, shortened_at_a_cut, Call};
 use reference::drawn::{draw, image};
 use std::collections::{BTreeMap, BTreeSet};
 
@@ -62,6 +62,21 @@ fn readings_of_the_cases_and_of_the_sample() {
         least.iter().all(|(row, least)| rows[row] >= *least),
         "{rows:?}"
     );
+    replay.end();
+}
+
+/// Dilations by hand: where ink falls off, and where nothing does.
+#[test]
+fn dilations_by_hand() {
+    let mut replay = Replay::start();
+    let mut met = BTreeMap::new();
+    for settled in dilated() {
+        let reply = replay.call(&Message::from(&settled.call));
+        let wanted = Reply::new(&settled.answer, &settled.after);
+        assert_eq!(reply, wanted, "{:?}", settled.call);
+        *met.entry(reply.values[1]).or_insert(0) += 1;
+    }
+    assert!(met[&0] >= 15 && met[&1] >= 15, "{met:?}");
     replay.end();
 }
 

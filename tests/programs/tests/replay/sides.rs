@@ -42,7 +42,7 @@ fn every_width_and_height() {
 }
 
 /// The operations that have an element.
-const WITH_ELEMENT: [usize; 7] = [0, 1, 2, 3, 4, 7, 8];
+const WITH_ELEMENT: [usize; 8] = [0, 1, 2, 3, 4, 7, 8, 9];
 
 /// 2 to 25 points: anywhere, all after the origin or all before it; most with holes.
 #[test]
@@ -172,6 +172,17 @@ fn the_largest_sheet() {
             counters: vec![0xA5A5; 255 * 255],
         };
         replay.agrees("the largest sheet", &minimise);
+        let dilate = Call::Dilate {
+            w,
+            h,
+            element,
+            image: image.clone(),
+            out: lent(image.len()),
+            work: work(),
+        };
+        let (answer, _) = replay.agrees("the largest sheet", &dilate);
+        let (area, fell) = (255 * 255, true);
+        assert_eq!(answer, Answer::Dilated { area, fell });
     }
     // Each point as large as its place lets it be.
     let distance = |z: u32| z.min(254 - z);

@@ -1,6 +1,6 @@
 //! The stream of calls itself: pieces, ends, limits, and what an operation does not use.
 
-use programs::format::{Message, Reply, DECODE_BLANK};
+use programs::format::{Message, Reply, DECODE_BLANK, DILATE};
 use programs::replay::Replay;
 use programs::run;
 use reference::cases::{call, Call};
@@ -55,7 +55,7 @@ fn input_that_ends_inside_a_call() {
 fn input_ends_at_an_unknown_operation() {
     let (calls, replies) = list(0..3);
     let (mut unknown, _) = both(3);
-    for operation in [10, 11, 128, 255] {
+    for operation in [11, 12, 128, 255] {
         unknown[0] = operation;
         let input = [&calls[..], &unknown, &calls].concat();
         assert!(run("replay", &input, 4096) == replies, "{operation}");
@@ -83,7 +83,7 @@ fn input_ends_at_a_length_above_the_buffers() {
 fn the_largest_buffers() {
     let rng = &mut Rng::new(1);
     let mut replay = Replay::start();
-    for operation in 0..10 {
+    for operation in 0..=DILATE {
         let message = Message {
             operation,
             numbers: [255, 255, 473536, 0],
@@ -110,7 +110,7 @@ fn the_largest_buffers() {
 #[test]
 fn what_an_operation_does_not_use() {
     let rng = &mut Rng::new(2);
-    let (mut replay, mut passed_over) = (Replay::start(), 0);
+    let (mut replay, mut blank, mut dilated) = (Replay::start(), 0, 0);
     for seed in 0..1600 {
         let call = call(seed);
         let (mut message, mut wanted) = (Message::from(&call), Reply::expected(&call));
@@ -135,14 +135,17 @@ fn what_an_operation_does_not_use() {
                 | Call::Minimise { .. }
                 | Call::Thin { .. }
                 | Call::Encode { .. }
+                | Call::Dilate { .. }
         ) || message.operation == DECODE_BLANK
         {
             message.numbers[3] = rng.number() as u32;
-            passed_over += (message.operation == DECODE_BLANK) as u32;
+            blank += (message.operation == DECODE_BLANK) as u32;
+            dilated += (message.operation == DILATE) as u32;
         }
         let difference = replay.call(&message).difference(&wanted);
         assert_eq!(difference, None, "seed {seed}, {}", call.name());
     }
-    assert!(passed_over >= 10, "{passed_over} blank marks");
+    assert!(blank >= 10, "{blank} blank marks");
+    assert!(dilated >= 100, "{dilated} dilations");
     replay.end();
 }

@@ -38,6 +38,8 @@ pub fn accepted() -> Vec<(Call, Vec<u8>)> {
         (Call::Decode { w, h, element, mark: Blank, stream: vec![],
             image: out(), work: vec![0xA5; 15] },
             vec![1, 2, 3, 9, 10]),
+        (Call::Dilate { w, h, element, image: image(), out: out(), work: vec![0xA5; 10] },
+            vec![1, 2, 3, 4]),
     ];
     calls
 }

@@ -89,7 +89,7 @@ pub fn shortened_at_a_cut() -> Vec<Settled> {
 }
 
 /// A call that writes these bytes, where it is not refused.
-fn case(case: char, call: Call, answer: Answer, bytes: &[u8]) -> Settled {
+pub fn case(case: char, call: Call, answer: Answer, bytes: &[u8]) -> Settled {
     let mut after = call.clone();
     if !matches!(answer, Refused(_)) {
         let p = after.parts();

@@ -31,6 +31,7 @@ fn generated_calls_meet_every_row_of_every_operation() {
         ("thin", BTreeSet::from([0, 1, 3, 4])),
         ("encode", BTreeSet::from([0, 1, 2, 3, 4, 8])),
         ("decode", BTreeSet::from([0, 1, 2, 3, 9, 10, 11])),
+        ("dilate", BTreeSet::from([0, 1, 2, 3, 4])),
     ]);
     assert_eq!(met, expected);
 }

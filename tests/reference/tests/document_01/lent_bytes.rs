@@ -54,6 +54,7 @@ fn after_a_success_what_is_only_read_is_unchanged() {
             | (Call::HitOrMiss { image: b, .. }, Call::HitOrMiss { image: a, .. })
             | (Call::Encode { image: b, .. }, Call::Encode { image: a, .. })
             | (Call::Decode { stream: b, .. }, Call::Decode { stream: a, .. })
+            | (Call::Dilate { image: b, .. }, Call::Dilate { image: a, .. })
             | (Call::Reconstruct { labels: b, .. }, Call::Reconstruct { labels: a, .. }) => {
                 assert_eq!(a, b)
             }
@@ -67,7 +68,7 @@ fn after_a_success_what_is_only_read_is_unchanged() {
 fn after_a_success_images_written_are_sound() {
     for seed in 0..8000 {
         let (answer, mut after) = run(&call(seed));
-        let (Area(area) | Thinned { area, .. }) = answer else {
+        let (Area(area) | Thinned { area, .. } | Dilated { area, .. }) = answer else {
             continue;
         };
         let p = after.parts();

@@ -3,46 +3,31 @@
 use mathlib.Core.Path.{_∙_, _≡_, refl, subst, sym}
 use Prim.Native.Nat.{_*_, _+_, _-_, _<_, _≤_, ℕ}
 use native.Mathlib.Omega.{arith}
-use borrow.Author.Needs.{needs}
 use denote.Ref.{now}
-use lib.ListN.{length, take}
+use lib.ListN.{length}
 use Rattle.morphology.specs.Element.{offsets}
 use Rattle.minimal.specs.Bands.{InBand}
 use Rattle.minimal.specs.Sizes.{Counting, Without}
 use Rattle.minimal.proofs.CountingLaws.{counting-gap, counting-length, counting-next, counting-open, counting-size}
-use Rattle.minimal.proofs.SizeLaws.{plane-banded, plane-rows, plane-size}
+use Rattle.minimal.proofs.SizeLaws.{shape-banded}
 use Rattle.minimal.proofs.sizes.count_size.Statement.{statement}
 use Rattle.minimal.proofs.sizes.count_size.Tie as tie
 
 abbrev Inv-loop : tie.InvT-loop
-Inv-loop w h r p element a n labels work counters₀ band v i₀ counters i =
-    (v ≡ n + 1) × (i ≤ length labels) × InBand w h r band (take p work) × Counting w h (offsets element) labels n i counters
+Inv-loop w h r element a n labels plane counters₀ band v i₀ counters i =
+    (v ≡ n + 1) × (i ≤ length labels) × InBand w h r band plane × Counting w h (offsets element) labels n i counters
 
 abbrev μ-loop : tie.MeasureT-loop
-μ-loop w h r p element a n labels work counters₀ band v i₀ counters i = length labels - i
+μ-loop w h r element a n labels plane counters₀ band v i₀ counters i = length labels - i
 
 abbrev start : tie.After-band-of Inv-loop μ-loop → tie.Start Inv-loop μ-loop
-start c = c .before .before .before .before .before
+start c = c .before .before .before .before
 
-abbrev to-in-loop : tie.After-slice-known3 Inv-loop μ-loop → tie.In-loop Inv-loop μ-loop
-to-in-loop c = c .before .before .before .before .before
-
-slice-reshare-prefix-band-of : tie.Need-slice-reshare-prefix-band-of Inv-loop μ-loop
-slice-reshare-prefix-band-of c =
-    let s = c .before .before .before in
-    omega (arith, s .pre .0 .planes)
-
-slice-aggregate-band-of : tie.Need-slice-aggregate-band-of Inv-loop μ-loop
-slice-aggregate-band-of c =
-    let s = c .before .before .before .before in
-    let a = s .args in
-    sym (plane-size (a .w) (a .h) (a .r) (a .p) (offsets (a .element)) (a .n) (a .a) (now (a .work)) (s .pre .0))
+abbrev to-in-loop : tie.After-slice-known2 Inv-loop μ-loop → tie.In-loop Inv-loop μ-loop
+to-in-loop c = c .before .before .before .before
 
 band-of-requires : tie.Need-band-of-requires Inv-loop μ-loop
-band-of-requires c κs =
-    let s = c .before .before .before .before in
-    let a = s .args in
-    plane-rows (a .w) (a .h) (a .r) (a .p) (offsets (a .element)) (a .n) (a .a) (now (a .work)) (s .pre .0)
+band-of-requires c κs = c .before .before .before .pre .0 .bytes
 
 add-v : tie.Need-add-v Inv-loop μ-loop
 add-v c =
@@ -65,24 +50,13 @@ loop-holds c =
     let e = c .next-place .ensures in (
       refl,
       e .within,
-      plane-banded (a .w) (a .h) (a .r) (a .p) (offsets (a .element)) (a .n) (a .a) (now (a .work)) (s .pre .0) _ b,
+      shape-banded (a .w) (a .h) (a .r) (offsets (a .element)) (a .n) (a .a) (now (a .plane)) (s .pre .0) _ b,
       counting-gap (a .w) (a .h) (offsets (a .element)) (now (a .labels)) (a .n) 0 _ (now (a .counters)) (e .after) (e .without) (s .pre .3),
     )
 
-slice-reshare-prefix-count-at : tie.Need-slice-reshare-prefix-count-at Inv-loop μ-loop
-slice-reshare-prefix-count-at c =
-    let s = start (c .before .before .before) in
-    omega (arith, s .pre .0 .planes)
-
-slice-aggregate-count-at : tie.Need-slice-aggregate-count-at Inv-loop μ-loop
-slice-aggregate-count-at c =
-    let s = start (c .before .before .before .before) in
-    let a = s .args in
-    sym (plane-size (a .w) (a .h) (a .r) (a .p) (offsets (a .element)) (a .n) (a .a) (now (a .work)) (s .pre .0))
-
 count-at-requires : tie.Need-count-at-requires Inv-loop μ-loop
 count-at-requires c κs =
-    let in-loop = c .before .before in
+    let in-loop = c .before in
     let at-loop = in-loop .before in
     let s = start (at-loop .before .before) in
     let a = s .args in
@@ -91,7 +65,7 @@ count-at-requires c κs =
     let t = s .pre .1 in
     let h : l .i < a .w * a .h = omega (arith, t .places, k) in (
       record { banded = l .inv .2; place = k; near = omega (arith, h, t .few); size = omega (arith, s .pre .2) },
-      counting-open (a .w) (a .h) (offsets (a .element)) (now (a .labels)) (a .n) (l .i) (l .counters) (l .inv .3) (a .r) (a .p) (a .a) (now (a .work))
+      counting-open (a .w) (a .h) (offsets (a .element)) (now (a .labels)) (a .n) (l .i) (l .counters) (l .inv .3) (a .r) (a .a) (now (a .plane))
           (s .pre .0) t h,
     )
 
@@ -122,7 +96,7 @@ loop-again c =
     let t = s .pre .1 in
     let h : l .i < a .w * a .h = omega (arith, t .places, in-loop .loop-test .taken) in
     let e = c .next-place2 .ensures in
-    let q = counting-next (a .w) (a .h) (offsets (a .element)) (now (a .labels)) (a .n) (l .i) (l .counters) (l .inv .3) (a .r) (a .p) (a .a) (now (a .work))
+    let q = counting-next (a .w) (a .h) (offsets (a .element)) (now (a .labels)) (a .n) (l .i) (l .counters) (l .inv .3) (a .r) (a .a) (now (a .plane))
     (s .pre .0) t h _ (at-count-at .count-at .ensures) in (
       l .inv .0,
       e .within,
@@ -131,35 +105,21 @@ loop-again c =
           (subst (λ (v : ℕ). Without v (l .i + 1) (c .next-place2 .result) (now (a .labels))) (l .inv .0) (e .without)) q,
     )
 
-dilate-step-requires : tie.Need-dilate-step-requires Inv-loop μ-loop
-dilate-step-requires c κs =
-    let s = start (c .before .before .before .before) in
-    (s .pre .0 .sheet, s .pre .0 .planes, s .pre .4, s .pre .0 .clean)
-
 same-length : tie.Need-same-length Inv-loop μ-loop
-same-length c = search needs
-
-same-length-2 : tie.Need-same-length-2 Inv-loop μ-loop
-same-length-2 c =
-    let at-loop = c .before .before .before .before .before in
-    let s = start (at-loop .before .before) in
+same-length c =
+    let s = start (c .before .before .before) in
     let a = s .args in
-    let l = at-loop .loop in
+    let l = c .before .loop in
     counting-length (a .w) (a .h) (offsets (a .element)) (now (a .labels)) (a .n) (l .i) (l .counters) (l .inv .3)
     ∙ sym (counting-length (a .w) (a .h) (offsets (a .element)) (now (a .labels)) (a .n) 0 (now (a .counters)) (s .pre .3))
 
 returns : tie.Need-returns Inv-loop μ-loop
 returns c =
-    let at-dilate-step = c .before .before in
-    let past-loop = at-dilate-step .before .before in
-    let at-loop = past-loop .before in
-    let s = start (at-loop .before .before) in
+    let s = start (c .before .before .before) in
     let a = s .args in
-    let l = at-loop .loop in (
-      counting-size (a .w) (a .h) (offsets (a .element)) (now (a .labels)) (a .n) (l .i) (l .counters)
-          (omega (arith, l .inv .1, past-loop .loop-test .left, s .pre .1 .places)) (l .inv .3),
-      at-dilate-step .dilate-step .ensures,
-    )
+    let l = c .before .loop in
+    counting-size (a .w) (a .h) (offsets (a .element)) (now (a .labels)) (a .n) (l .i) (l .counters)
+    (omega (arith, l .inv .1, c .loop-test .left, s .pre .1 .places)) (l .inv .3)
 
 pub count-size-spec : {M : Type 1} → statement M
 count-size-spec =
@@ -167,21 +127,15 @@ count-size-spec =
     (tie.spec
     Inv-loop
     μ-loop
-    slice-reshare-prefix-band-of
-    slice-aggregate-band-of
     band-of-requires
     add-v
     cast-v
     next-place-requires
     loop-holds
-    slice-reshare-prefix-count-at
-    slice-aggregate-count-at
     count-at-requires
     add-next-place
     next-place-requires-2
     loop-less
     loop-again
-    dilate-step-requires
     same-length
-    same-length-2
     returns)

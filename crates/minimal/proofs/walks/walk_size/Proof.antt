@@ -3,9 +3,8 @@
 use mathlib.Core.Path.{_∙_, _≡_, ap, refl, sym}
 use Prim.Native.Nat.{_*_, _+_, _-_, _<_, _≤_, ℕ}
 use native.Mathlib.Omega.{arith}
-use borrow.Author.Needs.{needs}
 use denote.Ref.{now}
-use lib.ListN.{length, take}
+use lib.ListN.{length}
 use Rattle.morphology.specs.Element.{offsets}
 use Rattle.morphology.specs.Lists.{upTo}
 use Rattle.morphology.specs.Minimal.{dropSize}
@@ -13,27 +12,24 @@ use Rattle.minimal.specs.Bands.{InBand}
 use Rattle.minimal.specs.Covers.{counts}
 use Rattle.minimal.specs.Sizes.{AllFit}
 use Rattle.minimal.proofs.CoverCountLaws.{counts-length}
-use Rattle.minimal.proofs.SizeLaws.{plane-banded, plane-rows, plane-size}
+use Rattle.minimal.proofs.SizeLaws.{shape-banded}
 use Rattle.minimal.proofs.WalkLaws.{size-begin, size-gap, size-more, size-tame, step-next, step-within}
 use Rattle.minimal.proofs.walks.walk_size.Statement.{statement}
 use Rattle.minimal.proofs.walks.walk_size.Tie as tie
 
 abbrev Inv-loop : tie.InvT-loop
-Inv-loop w h r p element a n labels₀ work counters₀ band v i₀ labels counters i =
-    (v ≡ n + 1) × (i ≤ length labels₀) × InBand w h r band (take p work) × (length labels ≡ length labels₀)
+Inv-loop w h r element a n labels₀ plane counters₀ band v i₀ labels counters i =
+    (v ≡ n + 1) × (i ≤ length labels₀) × InBand w h r band plane × (length labels ≡ length labels₀)
     × (labels ≡ dropSize w h (offsets element) n (upTo i) labels₀) × (counters ≡ counts w h (offsets element) labels)
 
 abbrev μ-loop : tie.MeasureT-loop
-μ-loop w h r p element a n labels₀ work counters₀ band v i₀ labels counters i = length labels₀ - i
+μ-loop w h r element a n labels₀ plane counters₀ band v i₀ labels counters i = length labels₀ - i
 
 abbrev start : tie.At-loop Inv-loop μ-loop → tie.Start Inv-loop μ-loop
-start c = c .before .before .before .before .before .before .before .before
+start c = c .before .before .before .before .before .before .before
 
 abbrev to-in-loop : tie.After-next-place-arg2 Inv-loop μ-loop → tie.In-loop Inv-loop μ-loop
-to-in-loop c = c .before .before .before .before .before .before .before .before .before
-
-abbrev to-at-loop : tie.After-slice-known6 Inv-loop μ-loop → tie.At-loop Inv-loop μ-loop
-to-at-loop c = c .before .before .before .before .before
+to-in-loop c = c .before .before .before .before .before .before .before .before
 
 abbrev to-step : tie.After-next-place-arg2 Inv-loop μ-loop → tie.After-step Inv-loop μ-loop
 to-step c = c .before .before .before .before .before
@@ -49,31 +45,17 @@ tame c =
     let a = s .args in
     size-tame (a .w) (a .h) (offsets (a .element)) (a .n) (now (a .labels)) (c .loop .i) (c .loop .labels) (s .pre .1) (c .loop .inv .4) (c .loop .inv .3)
 
-slice-reshare-prefix-band-of : tie.Need-slice-reshare-prefix-band-of Inv-loop μ-loop
-slice-reshare-prefix-band-of c =
-    let s = c .before .before .before in
-    omega (arith, s .pre .0 .planes)
-
-slice-aggregate-band-of : tie.Need-slice-aggregate-band-of Inv-loop μ-loop
-slice-aggregate-band-of c =
-    let s = c .before .before .before .before in
-    let a = s .args in
-    sym (plane-size (a .w) (a .h) (a .r) (a .p) (offsets (a .element)) (a .n) (a .a) (now (a .work)) (s .pre .0))
-
 band-of-requires : tie.Need-band-of-requires Inv-loop μ-loop
-band-of-requires c κs =
-    let s = c .before .before .before .before in
-    let a = s .args in
-    plane-rows (a .w) (a .h) (a .r) (a .p) (offsets (a .element)) (a .n) (a .a) (now (a .work)) (s .pre .0)
+band-of-requires c κs = c .before .before .before .pre .0 .bytes
 
 add-v : tie.Need-add-v Inv-loop μ-loop
 add-v c =
-    let s = c .before .before .before .before .before in
+    let s = c .before .before .before .before in
     omega (arith, s .pre .2)
 
 cast-v : tie.Need-cast-v Inv-loop μ-loop
 cast-v c =
-    let s = c .before .before .before .before .before in
+    let s = c .before .before .before .before in
     omega (arith, s .pre .2)
 
 next-place-requires : tie.Need-next-place-requires Inv-loop μ-loop
@@ -82,33 +64,22 @@ next-place-requires c κs = omega arith
 loop-holds : tie.Need-loop-holds Inv-loop μ-loop
 loop-holds c =
     let at-band-of = c .before .before in
-    let s = at-band-of .before .before .before .before .before in
+    let s = at-band-of .before .before .before .before in
     let a = s .args in
     let b = at-band-of .band-of .ensures in
     let e = c .next-place .ensures in (
       refl,
       e .within,
-      plane-banded (a .w) (a .h) (a .r) (a .p) (offsets (a .element)) (a .n) (a .a) (now (a .work)) (s .pre .0) _ b,
+      shape-banded (a .w) (a .h) (a .r) (offsets (a .element)) (a .n) (a .a) (now (a .plane)) (s .pre .0) _ b,
       refl,
       size-gap (a .w) (a .h) (offsets (a .element)) (a .n) (now (a .labels)) 0 _ (now (a .labels)) (e .after) (e .without)
           (size-begin (a .w) (a .h) (offsets (a .element)) (a .n) (now (a .labels))),
       s .pre .3,
     )
 
-slice-reshare-prefix-step : tie.Need-slice-reshare-prefix-step Inv-loop μ-loop
-slice-reshare-prefix-step c =
-    let s = start (c .before .before) in
-    omega (arith, s .pre .0 .planes)
-
-slice-aggregate-step : tie.Need-slice-aggregate-step Inv-loop μ-loop
-slice-aggregate-step c =
-    let s = start (c .before .before .before) in
-    let a = s .args in
-    sym (plane-size (a .w) (a .h) (a .r) (a .p) (offsets (a .element)) (a .n) (a .a) (now (a .work)) (s .pre .0))
-
 step-requires : tie.Need-step-requires Inv-loop μ-loop
 step-requires c κs =
-    let in-loop = c .before .before .before in
+    let in-loop = c .before .before in
     let at-loop = in-loop .before in
     let s = start at-loop in
     let a = s .args in
@@ -118,7 +89,7 @@ step-requires c κs =
     let h = placed in-loop in
     let u = tame at-loop in (
       record { banded = l .inv .2; place = k; near = omega (arith, h, t .few); size = omega (arith, s .pre .2) },
-      step-within (a .w) (a .h) (a .r) (a .p) (offsets (a .element)) (a .n) (a .a) (now (a .work)) (s .pre .0) (l .labels) u (l .i) h (l .counters)
+      step-within (a .w) (a .h) (a .r) (offsets (a .element)) (a .n) (a .a) (now (a .plane)) (s .pre .0) (l .labels) u (l .i) h (l .counters)
           (l .inv .5),
     )
 
@@ -141,7 +112,7 @@ next-place-requires-2 c κs =
     let t = s .pre .1 in
     let h = placed in-loop in
     let u = tame at-loop in
-    let z = step-next (a .w) (a .h) (a .r) (a .p) (offsets (a .element)) (a .n) (a .a) (now (a .work)) (s .pre .0) (l .labels) u (l .i) h (l .counters)
+    let z = step-next (a .w) (a .h) (a .r) (offsets (a .element)) (a .n) (a .a) (now (a .plane)) (s .pre .0) (l .labels) u (l .i) h (l .counters)
     (l .inv .5) _ _ (at-step .step .ensures) in
     omega (arith, k, z .size)
 
@@ -163,7 +134,7 @@ loop-again c =
     let t = s .pre .1 in
     let h = placed in-loop in
     let u = tame at-loop in
-    let z = step-next (a .w) (a .h) (a .r) (a .p) (offsets (a .element)) (a .n) (a .a) (now (a .work)) (s .pre .0) (l .labels) u (l .i) h (l .counters)
+    let z = step-next (a .w) (a .h) (a .r) (offsets (a .element)) (a .n) (a .a) (now (a .plane)) (s .pre .0) (l .labels) u (l .i) h (l .counters)
     (l .inv .5) _ _ (at-step .step .ensures) in
     let e = c .next-place2 .ensures in
     let q = size-more (a .w) (a .h) (offsets (a .element)) (a .n) (now (a .labels)) (l .i) (l .labels) _ (l .inv .4) (z .labels) in (
@@ -176,44 +147,28 @@ loop-again c =
       z .counters,
     )
 
-dilate-step-requires : tie.Need-dilate-step-requires Inv-loop μ-loop
-dilate-step-requires c κs =
-    let s = start (c .before .before) in
-    (s .pre .0 .sheet, s .pre .0 .planes, s .pre .4, s .pre .0 .clean)
-
 same-length : tie.Need-same-length Inv-loop μ-loop
-same-length c =
-    let at-loop = to-at-loop c in
-    at-loop .loop .inv .3
+same-length c = c .before .loop .inv .3
 
 same-length-2 : tie.Need-same-length-2 Inv-loop μ-loop
-same-length-2 c = search needs
-
-same-length-3 : tie.Need-same-length-3 Inv-loop μ-loop
-same-length-3 c =
-    let at-loop = to-at-loop c in
-    let s = start at-loop in
+same-length-2 c =
+    let s = start (c .before) in
     let a = s .args in
-    let l = at-loop .loop in
+    let l = c .before .loop in
     ap length (l .inv .5) ∙ counts-length (a .w) (a .h) (offsets (a .element)) (l .labels)
     ∙ sym (ap length (s .pre .3) ∙ counts-length (a .w) (a .h) (offsets (a .element)) (now (a .labels)))
 
 returns : tie.Need-returns Inv-loop μ-loop
 returns c =
-    let at-dilate-step = c .before .before in
-    let past-loop = at-dilate-step .before .before in
-    let at-loop = to-at-loop c in
-    let s = start at-loop in
+    let s = start (c .before) in
     let a = s .args in
-    let l = at-loop .loop in
-    let e : l .i ≡ a .w * a .h = omega (arith, l .inv .1, l .inv .3, past-loop .loop-test .left, s .pre .1 .places) in (
-      record {
-        size = l .inv .3;
-        labels = l .inv .4 ∙ ap (λ (k : ℕ). dropSize (a .w) (a .h) (offsets (a .element)) (a .n) (upTo k) (now (a .labels))) e;
-        counters = l .inv .5;
-      },
-      at-dilate-step .dilate-step .ensures,
-    )
+    let l = c .before .loop in
+    let e : l .i ≡ a .w * a .h = omega (arith, l .inv .1, l .inv .3, c .loop-test .left, s .pre .1 .places) in
+    record {
+      size = l .inv .3;
+      labels = l .inv .4 ∙ ap (λ (k : ℕ). dropSize (a .w) (a .h) (offsets (a .element)) (a .n) (upTo k) (now (a .labels))) e;
+      counters = l .inv .5;
+    }
 
 pub walk-size-spec : {M : Type 1} → statement M
 walk-size-spec =
@@ -221,22 +176,16 @@ walk-size-spec =
     (tie.spec
     Inv-loop
     μ-loop
-    slice-reshare-prefix-band-of
-    slice-aggregate-band-of
     band-of-requires
     add-v
     cast-v
     next-place-requires
     loop-holds
-    slice-reshare-prefix-step
-    slice-aggregate-step
     step-requires
     add-next-place
     next-place-requires-2
     loop-less
     loop-again
-    dilate-step-requires
     same-length
     same-length-2
-    same-length-3
     returns)
