@@ -57,7 +57,7 @@ pub fn erode_times(w: usize, h: usize, r: usize, p: usize, element: u32, n: u32,
     }
 }
 
-// The first plane dilated n times in place; not at all where it is empty. Answers whether a point fell off in one of them: whether the n-fold element makes one fall off.
+// The first plane dilated n times in place; not at all where it is empty. Answers whether a point fell off in one of them, and so by the n-fold element.
 pub fn dilate_times(
     w: usize,
     h: usize,
