@@ -40,7 +40,7 @@ fn seen(s: &[u8], r: usize, h: usize, c: usize) -> u8
     v
 }
 
-// Whether they have ink in the first columns, left of them.
+// Whether h rows of r bytes have ink in one of the first `left` columns.
 fn left_ink(s: &[u8], r: usize, h: usize, left: usize) -> bool
     requires { ⌜ (0 < r) × (h * r ≤ length (now s)) × (left ≤ 2) ⌝ }
     ensures { λ b. ⌜ b ≡ columnsInk (now (s .entry)) r h 0 left ⌝ }
@@ -51,7 +51,7 @@ fn left_ink(s: &[u8], r: usize, h: usize, left: usize) -> bool
     seen(s, r, h, 0) as u32 >> ((8 - left) as u32) != 0
 }
 
-// Whether they have ink in the last columns, right of w. With the padding, which is clean, these are the ends of the last bytes, or those bytes and a pixel.
+// Whether they have ink in one of the last `right` columns before w: with the padding, which is clean, the ends of the last bytes, or those bytes and a pixel.
 fn right_ink(s: &[u8], w: usize, r: usize, h: usize, right: usize) -> bool
     requires { ⌜ Frame w h r × (h * r ≤ length (now s)) × T (isClean w h (now s)) × (right ≤ 2) × (right < w) ⌝ }
     ensures { λ b. ⌜ b ≡ columnsInk (now (s .entry)) r h (w - right) w ⌝ }
