@@ -1,4 +1,6 @@
 // A call of a public operation by its number, with its answer as numbers.
+#![tactic(auto)]
+
 mod format;
 
 ghost use Rattle.std.specs.Prelude.{◌≡◌, cond, [], ◌∷◌, ◌^◌, ltb, length};
@@ -153,9 +155,8 @@ fn of_dilated(a: Dilated) -> Reply
     }
 }
 
-// Calls operation `op`: x is read, y, z and c are lent. A buffer that the operation does not have stays as it is. Exported for bench/.
-#[unsafe(no_mangle)]
-pub extern "C" fn call(
+// Calls operation `op`: x is read, y, z and c are lent. A buffer that the operation does not have stays as it is.
+pub fn call(
     op: u8,
     w: u32,
     h: u32,
@@ -188,9 +189,8 @@ pub extern "C" fn call(
 // No lent plane has as many bytes.
 const TOO_LONG: usize = 1048576;
 
-// The number of ones in the bytes of s, as the operations count an area; 0 where there are too many. Exported for bench/ and tests/.
-#[unsafe(no_mangle)]
-pub extern "C" fn count(s: &[u8]) -> u32
+// The number of ones in the bytes of s, as the operations count an area; 0 where there are too many.
+pub fn count(s: &[u8]) -> u32
     ensures { result ≡ cond (ltb (length s.now) (2 ^ 20)) (ones_of s.now) 0 }
 {
     if s.len() >= TOO_LONG {

@@ -24,6 +24,8 @@
 //     2..14    three values, 0 where there is none
 //
 // It ends at the end of the input, at input that ends inside a call, at a read that fails, at an operation above 10 and at a length above these.
+#![tactic(auto)]
+
 ghost use Rattle.std.specs.Prelude.{◌≡◌, ◌*◌, length};
 
 use input::Input;
@@ -37,8 +39,8 @@ const SIZE: usize = 65536;
 const CALLS: u64 = 1 << 63;
 
 // Fills a buffer from standard input; whether all of it was there.
-fn fill(s: &mut [u8]) -> bool {
-    let read = input::read_all(0, s);
+fn fill(rt: &HostRuntime, s: &mut [u8]) -> bool {
+    let read = input::read_all(&mut rt.stdin(), s);
     match read {
         Input::Read(count) => count == s.len(),
         Input::Failed => false,
@@ -46,12 +48,13 @@ fn fill(s: &mut [u8]) -> bool {
 }
 
 // Writes to standard output; whether that could be done.
-fn put(s: &[u8]) -> bool {
-    io::write_all(1, s)
+fn put(rt: &HostRuntime, s: &[u8]) -> bool {
+    rt.write_all(s).is_ok()
 }
 
 // Reads the buffers of a call, which have its lengths, makes the call and writes its reply; whether all of it could be done.
 fn serve(
+    rt: &HostRuntime,
     header: &[u8; calls::HEADER],
     x: &mut [u8],
     y: &mut [u8],
@@ -61,26 +64,33 @@ fn serve(
 ) -> bool
     requires { length c.old ≡ 2 * length counters.old }
 {
-    if !fill(x) {
+    if !fill(rt, x) {
         return false;
     }
-    if !fill(y) {
+    if !fill(rt, y) {
         return false;
     }
-    if !fill(z) {
+    if !fill(rt, z) {
         return false;
     }
-    if !fill(c) {
+    if !fill(rt, c) {
         return false;
     }
     let reply = calls::answer(header, &x[..], y, z, c, counters);
-    put(&reply) && put(&y[..]) && put(&z[..]) && put(&c[..])
+    put(rt, &reply) && put(rt, &y[..]) && put(rt, &z[..]) && put(rt, &c[..])
 }
 
 // Reads a call that fits the buffers, makes it and writes its reply; whether there was one.
-fn turn(x: &mut [u8], y: &mut [u8], z: &mut [u8], c: &mut [u8], counters: &mut [u16]) -> bool {
+fn turn(
+    rt: &HostRuntime,
+    x: &mut [u8],
+    y: &mut [u8],
+    z: &mut [u8],
+    c: &mut [u8],
+    counters: &mut [u16],
+) -> bool {
     let mut header = [0u8; calls::HEADER];
-    if !fill(&mut header) {
+    if !fill(rt, &mut header) {
         return false;
     }
     let xs = numbers::number(&header, 17) as usize;
@@ -94,6 +104,7 @@ fn turn(x: &mut [u8], y: &mut [u8], z: &mut [u8], c: &mut [u8], counters: &mut [
         return false;
     }
     serve(
+        rt,
         &header,
         &mut x[..xs],
         &mut y[..ys],
@@ -103,7 +114,7 @@ fn turn(x: &mut [u8], y: &mut [u8], z: &mut [u8], c: &mut [u8], counters: &mut [
     )
 }
 
-fn main() {
+fn main(rt: HostRuntime) {
     let mut x = [0u8; LONG];
     let mut y = [0u8; SIZE];
     let mut z = [0u8; SIZE];
@@ -111,7 +122,7 @@ fn main() {
     let mut counters = [0u16; SIZE];
     let mut made: u64 = 0;
     while made < CALLS {
-        if !turn(&mut x, &mut y, &mut z, &mut c, &mut counters) {
+        if !turn(&rt, &mut x, &mut y, &mut z, &mut c, &mut counters) {
             return;
         }
         made = made + 1;
