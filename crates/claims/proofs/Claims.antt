@@ -114,8 +114,8 @@ use Rattle.morphology.proofs.ThinningLaws.{edge-hit, edge_kept, hit-part, less, 
 
 -- ---- the settled cases
 
-pub settled-cases : SettledCases
-settled-cases = settled
+pub settled_cases : SettledCases
+settled_cases = settled
 
 -- ---- demand 1
 
@@ -137,8 +137,8 @@ refuses_exactly = record {
   thinning = λ W H image work. refuses (thin_rows W H image work) (image ∷ work ∷ []) _ tt refl;
 }
 
-pub bad-at_any-cut : BadAtAnyCut
-bad-at_any-cut = bad-or_sound
+pub bad_at_any_cut : BadAtAnyCut
+bad_at_any_cut = bad-or_sound
 
 -- ---- demand 2
 
@@ -158,9 +158,9 @@ decomposed_is W H e image m w i el b =
 pub labels_stay : LabelsStay
 labels_stay W H e image el = skeleton-tame W H (offsets e) (element e el) (image_set W H image) (image_on W H image)
 
-pub cut_is-opening : CutIsOpening
+pub cut_is_opening : CutIsOpening
 unfolding reconstructed
-cut_is-opening W H e image target labels work work' k i el b b' size h =
+cut_is_opening W H e image target labels work work' k i el b b' size h =
     let B = offsets e in
     let X = image_set W H image in
     let s = skeleton_labels W H B X in
@@ -177,7 +177,7 @@ rebuild_is_exact W H e image target labels work work' i el b b' size =
     let X = image_set W H image in
     let m = output (decomposed W H e image labels work) in
     let r : reconstructed W H e 0 m target work' ≡ outcome (foreground (area W H X)) (image ∷ cleared W H work' ∷ []) =
-    cut_is-opening W H e image target labels work work' 0 i el b b' size zero-le
+    cut_is_opening W H e image target labels work work' 0 i el b b' size zero-le
     ∙ ap (λ (Y : Point → Bool). writes W H Y work') (open-zero (offsets e) X)
     ∙ ap (λ (l : List ℕ). outcome (foreground (area W H X)) (l ∷ cleared W H work' ∷ [])) (canonical W H image i) in
     let d = decomposed_is W H e image labels work i el b in
@@ -191,8 +191,8 @@ rebuild_is_exact W H e image target labels work work' i el b b' size =
 
 -- the labels that a decomposition writes, by the formula
 
-pub labels_are-sizes : LabelsAreSizes
-labels_are-sizes W H e image labels work h = record {
+pub labels_are_sizes : LabelsAreSizes
+labels_are_sizes W H e image labels work h = record {
   labels = subst (Sizes W H (Offset e) (Ink W H image)) (sym q) sizes;
   answer = ap (λ (o : Outcome). o.answer) d.is ∙ ap (λ (m : List ℕ). skeleton_answer m (greatest m)) (sym q);
   small = λ i. subst (λ (m : List ℕ). get_or m i 0 ≤ max_side) (sym q) (small i);
@@ -296,9 +296,9 @@ writes_images = record {
 
 -- ---- demand 3
 
-pub sieve_is-accepted : SieveIsAccepted
+pub sieve_is_accepted : SieveIsAccepted
 unfolding sieve_refused taken_apart rebuilt
-sieve_is-accepted s image i el b w h =
+sieve_is_accepted s image i el b w h =
     let W = s.width in
     let H = s.height in
     let e = s.element in
@@ -306,7 +306,7 @@ sieve_is-accepted s image i el b w h =
     let d = decomposed_is W H e image s.labels s.first_work i el b in
     let first : is_refused (taken_apart s image) ≡ false = ap is_refused d ∙ ap (λ (n : ℕ). not (eqb n 0)) (answer-accepted m (greatest m)) in
     let second : is_refused (rebuilt s image) ≡ false =
-    ap is_refused (cut_is-opening W H e image image s.labels s.first_work s.second_work s.cut i el b w (good W H image i.passes).size h) in
+    ap is_refused (cut_is_opening W H e image image s.labels s.first_work s.second_work s.cut i el b w (good W H image i.passes).size h) in
     ap₂ (λ (x y : Bool). x || y) first second
 
 pub sieve_list : SieveList
@@ -330,12 +330,12 @@ sieve_list W H e first ss i el one =
 
 -- ---- shortening
 
-pub shortening_is-minimal : ShorteningIsMinimal
-shortening_is-minimal = shortening
+pub shortening_is_minimal : ShorteningIsMinimal
+shortening_is_minimal = shortening
 
-pub size-zero-stays : SizeZeroStays
+pub size_zero_stays : SizeZeroStays
 unfolding decomposed
-size-zero-stays W H e image labels work work' counters h h' i l q =
+size_zero_stays W H e image labels work work' counters h h' i l q =
     let X = image_set W H image in
     let s = skeleton_labels W H (offsets e) X in
     let m = output (decomposed W H e image labels work) in
@@ -372,9 +372,9 @@ edge_stays W H image work h z b o off =
       (λ i. ink_in W H left z (subst T (sym e) (ink-out W H image z i))),
     )
 
-pub narrow-stays : NarrowStays
+pub narrow_stays : NarrowStays
 unfolding area
-narrow-stays W H n = record {
+narrow_stays W H n = record {
   hits = λ m image out h.
       let a = hit-accepted W H m image out h in
       let X = hit W H m (image_set W H image) in
@@ -405,8 +405,8 @@ thinning_stops W H image work h =
       },
     )
 
-pub thinning-ends : ThinningEnds
-thinning-ends W H image =
+pub thinning_ends : ThinningEnds
+thinning_ends W H image =
     let n = area W H (image_set W H image) in
     record {
       falls = λ f. less W H image (ne_eqb _ _ f);

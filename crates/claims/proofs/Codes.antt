@@ -52,9 +52,9 @@ coded-accepted : (largest : Option ℕ) (stream : List ℕ) → (coded (code lar
 coded-accepted none s = refl
 coded-accepted (some n) s = refl
 
-pub writer-refuses_exactly : WriterRefusesExactly
+pub writer_refuses_exactly : WriterRefusesExactly
 unfolding encoded
-writer-refuses_exactly W H e image out work =
+writer_refuses_exactly W H e image out work =
     let t = code_of W H (offsets e) (image_set W H image) in
     refuses_late (encode_rows W H e image work) (row8 (length t.stream) out ∷ []) (out ∷ work ∷ []) (out ∷ cleared W H work ∷ [])
     (outcome (coded t) ((t.stream ++ drop (length t.stream) out) ∷ cleared W H work ∷ [])) tt (coded-accepted t.largest t.stream)
@@ -137,8 +137,8 @@ module _ (W H e : ℕ) (el : T (is_element e)) (image : List ℕ) where
 clear-element : (W H e : ℕ) (image work : List ℕ) → first_refusal (encode_rows W H e image work) ≡ 0 → T (is_element e)
 clear-element W H e image work z = T_of-not (is_element e) (clear-out (encode_rows W H e image work) tt z).1.0
 
-pub writes_the-code : WritesTheCode
-writes_the-code W H e image out work h =
+pub writes_the_code : WritesTheCode
+writes_the_code W H e image out work h =
     let t = code_of W H (offsets e) (image_set W H image) in
     let s = t.stream in
     let a = encoded-accepted W H e image out work h in
@@ -165,9 +165,9 @@ writes_the-code W H e image out work h =
     add_sub : {a b : ℕ} → a ≤ b → a + (b - a) ≡ b
     add_sub h = omega arith
 
-pub blank_has-no-stream : BlankHasNoStream
+pub blank_has_no_stream : BlankHasNoStream
 unfolding encoded
-blank_has-no-stream W H e image out work f = by (first_refusal rows) refl
+blank_has_no_stream W H e image out work f = by (first_refusal rows) refl
   where
     rows : List Row
     rows = encode_rows W H e image work
@@ -187,16 +187,16 @@ blank_has-no-stream W H e image out work f = by (first_refusal rows) refl
 
 -- ---- runs as digits, symbols as bytes
 
-pub runs_are-base3 : RunsAreBase3
-runs_are-base3 = numeral-base3
+pub runs_are_base3 : RunsAreBase3
+runs_are_base3 = numeral-base3
 
-pub bits_fill-bytes : BitsFillBytes
-bits_fill-bytes = sections_packed
+pub bits_fill_bytes : BitsFillBytes
+bits_fill_bytes = sections_packed
 
 -- ---- which pixels are skipped
 
-pub mask_is-covered : MaskIsCovered
-mask_is-covered B larger z = (mask-out B larger z, mask_in B larger z)
+pub mask_is_covered : MaskIsCovered
+mask_is_covered B larger z = (mask-out B larger z, mask_in B larger z)
 
 module _ (W H e : ℕ) (el : T (is_element e)) (image : List ℕ) (N : ℕ) (g : greatest (m W H e el image) ≡ suc N) where
   abbrev S : ℕ → Point → Bool
@@ -257,15 +257,15 @@ module _ (W H e : ℕ) (el : T (is_element e)) (image : List ℕ) (N : ℕ) (g :
       (fun_ext (size_subset W H B (element e el) (image_set W H image) (image_on W H image)))
       ∙ ap (λ (ws : List (List (List ℕ))). pack_symbols (sections ws)) (map-down (map numeral) (λ n. size_runs W H B S n (N - n)) N)
 
-pub no-point_is-skipped : NoPointIsSkipped
-no-point_is-skipped W H e image n z el h c =
+pub no_point_is_skipped : NoPointIsSkipped
+no_point_is_skipped W H e image n z el h c =
     let l = size_below W H e el image n z h in
     let N = greatest (m W H e el image) - 1 in
     let g : greatest (m W H e el image) ≡ suc N = omega arith in
     not-masked W H e el image N g n z (omega arith) (there W H e el image n z h) (covered_out W H e el image N g n z c)
 
-pub sections_by-size : SectionsBySize
-sections_by-size W H e image N el q =
+pub sections_by_size : SectionsBySize
+sections_by_size W H e image N el q =
     let g = largest-some W H e el image N q in
     record {
       points = S W H e el image N g;

@@ -27,8 +27,8 @@ says_what_fell W H e image = (
       (not_T (on_frame W H z) (λ t. f.2 (subst (Within W H) (sym d.4) ((within_is W H).to t))))),
 )
 
-pub no_means-whole : NoMeansWhole
-no_means-whole W H e image =
+pub no_means_whole : NoMeansWhole
+no_means_whole W H e image =
     let X = image_set W H image in (
       falls-clip W H (offsets e) X (image_on W H image),
       (λ q. on-falls W H (offsets e) X (subst (OnFrame W H) q (clip_on W H (dilate (offsets e) X)))),

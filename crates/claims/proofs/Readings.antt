@@ -22,7 +22,7 @@ use Rattle.claims.specs.Readings.{
 }
 use Rattle.claims.proofs.AcceptedLaws.{decoded-accepted, encoded-accepted}
 use Rattle.claims.proofs.Claims.{canonical}
-use Rattle.claims.proofs.Codes.{writes_the-code}
+use Rattle.claims.proofs.Codes.{writes_the_code}
 use Rattle.claims.proofs.RowLaws.{code_rises, refuses_late}
 use Rattle.claims.proofs.WritingLaws.{packed-writes}
 use Rattle.coding.specs.Codes.{code, code_of, map_code}
@@ -54,9 +54,9 @@ settled_readings = settled
 
 -- ---- refusals
 
-pub reader-refuses_exactly : ReaderRefusesExactly
+pub reader_refuses_exactly : ReaderRefusesExactly
 unfolding decoded
-reader-refuses_exactly W H e n bytes image work =
+reader_refuses_exactly W H e n bytes image work =
     let B = offsets e in
     let X = code_set W H B n bytes in
     let w = cleared_planes 5 W H work in
@@ -149,7 +149,7 @@ written_is_read W H e image out work target work' b q l =
     let t = code_of W H B X in
     let o = encoded W H e image out work in
     let a = encoded-accepted W H e image out work q in
-    let c = writes_the-code W H e image out work q in
+    let c = writes_the_code W H e image out work q in
     let s = T_of-not (is_side W && is_side H) a.clear.0 in
     let el = T_of-not (is_element e) a.clear.1.0 in
     let i = clear-image W H e image work (row8 (length t.stream) out ∷ []) a.clear b in
@@ -158,8 +158,8 @@ written_is_read W H e image out work target work' b q l =
     ap₂ (λ (m : Option ℕ) (c : List ℕ). decoded W H e m c target work') n (ap (λ (k : ℕ). take k (output o)) k ∙ c.stream)
     ∙ image_read W H e t.largest t.stream target work' image i el l (own-accepted W H B s (element e el) X (image_on W H image))
 
-pub one-stream : OneStream
-one-stream W H e n k bytes bits target work target' work' t u p q =
+pub one_stream : OneStream
+one_stream W H e n k bytes bits target work target' work' t u p q =
     let B = offsets e in
     let X = code_set W H B n bytes in
     let Y = code_set W H B k bits in
@@ -170,7 +170,7 @@ one-stream W H e n k bytes bits target work target' work' t u p q =
       (λ h. r.1 (pack_inj W H X Y c.on d.on (sym (ap output c.is) ∙ h ∙ ap output d.is))),
     )
 
-pub read_is-image : ReadIsImage
-read_is-image W H e n bytes target work t q =
+pub read_is_image : ReadIsImage
+read_is_image W H e n bytes target work t q =
     let d = has_read W H e n bytes target work t q in
     packed-writes W H d.sides (code_set W H (offsets e) n bytes) (cleared_planes 5 W H work ∷ []) (decoded W H e n bytes target work) d.on d.is

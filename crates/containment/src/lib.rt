@@ -1,4 +1,6 @@
 // Row 5 of the table of refusals: a point of a map that leaves the frame.
+#![tactic(auto)]
+
 ghost use Rattle.std.specs.Prelude.{◌≡◌, ℕ, ◌*◌, ◌<◌, ◌≤◌, leb, ltb, T, length, get_or};
 ghost use Rattle.morphology.specs.Element.{is_element, offsets};
 ghost use Rattle.morphology.specs.Lists.{some_of, up_to};

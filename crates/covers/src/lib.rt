@@ -1,4 +1,6 @@
 // What the larger points cover: grown by one size, and eroded again.
+#![tactic(auto)]
+
 ghost use Rattle.morphology.specs.Element.{offsets};
 ghost use Rattle.covers.specs.Grown.{CoverStart, CoverPair, CoverGrown, CoverTested};
 

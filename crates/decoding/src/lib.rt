@@ -1,4 +1,6 @@
 // The reader of codes: public.
+#![tactic(auto)]
+
 ghost use Rattle.std.specs.Prelude.{[], ◌∷◌, ◌≡◌, ◌+◌, ◌*◌, ◌/◌, ◌<◌, ◌≤◌, ◌^◌, T, length, drop};
 ghost use Rattle.std.proofs.Math.Option.{some};
 ghost use Rattle.coding.specs.Symbols.{symbols_of};
@@ -117,7 +119,8 @@ fn is_padding(stream: &[u8], at: usize) -> bool
     if at % 4 == 0 {
         return false;
     }
-    if i + 1 < stream.len() {
+    let more = i + 1 < stream.len();
+    if more {
         return false;
     }
     stream[i] % (1u8 << ((8 - 2 * (at % 4)) as u32)) == 0

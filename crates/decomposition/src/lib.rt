@@ -1,4 +1,6 @@
 // The turns of a decomposition: labels of an image by size.
+#![tactic(auto)]
+
 ghost use Rattle.std.specs.Prelude.{false, ◌≡◌, ◌+◌, ◌*◌, ◌≤◌, T, length, replicate, take};
 ghost use Rattle.morphology.specs.Element.{offsets, is_element};
 ghost use Rattle.morphology.specs.Image.{image_set, is_clean};

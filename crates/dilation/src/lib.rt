@@ -1,4 +1,6 @@
 // One dilation with its own answer, over any arguments. Not a public operation of the library: for tests.
+#![tactic(auto)]
+
 ghost use Rattle.std.specs.Prelude.{◌≡◌, [], ◌∷◌, T};
 ghost use Rattle.morphology.specs.Answers.{outcome};
 ghost use Rattle.morphology.specs.Element.{offsets, is_element};

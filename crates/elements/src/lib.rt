@@ -1,4 +1,6 @@
 // Structuring elements as numbers: the bit of the origin, the first number that is none, how far an element goes to each of the four sides.
+#![tactic(auto)]
+
 ghost use Rattle.std.specs.Prelude.{◌≡◌, ◌≤◌};
 ghost use Rattle.morphology.specs.Element.{offsets};
 ghost use Rattle.morphology.specs.Extent.{extent as extent_of};

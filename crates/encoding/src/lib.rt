@@ -1,4 +1,6 @@
 // The writer of codes: public.
+#![tactic(auto)]
+
 ghost use Rattle.std.specs.Prelude.{◌≡◌, true, List, [], ◌∷◌, map, ℕ, ◌+◌, ◌*◌, ◌/◌, ◌<◌, ◌≤◌, ◌^◌, T, length, drop, replicate, take};
 ghost use Rattle.coding.specs.Codes.{code_of};
 ghost use Rattle.coding.specs.Coding.{encoded, coding};

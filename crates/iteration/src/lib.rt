@@ -1,4 +1,6 @@
 // Erosions and dilations one after the other in the first plane of work; handing out and clearing.
+#![tactic(auto)]
+
 ghost use Rattle.std.specs.Prelude.{◌≡◌, ◌++◌, ◌*◌, ◌<◌, ◌≤◌, ◌^◌, T, length, replicate, take, drop};
 ghost use Rattle.morphology.specs.Element.{offsets, is_element};
 ghost use Rattle.morphology.specs.Falls.{falls_off};

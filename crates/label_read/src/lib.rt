@@ -1,4 +1,6 @@
 // Points read from labels: the largest label, rows with a label, points joined to a plane.
+#![tactic(auto)]
+
 ghost use Rattle.std.specs.Prelude.{◌≡◌, cond, ◌||◌, ◌+◌, ◌*◌, ◌-◌, ◌<◌, ◌≤◌, max, eqb, ltb, T, length};
 ghost use Rattle.morphology.specs.Image.{from_bits, is_clean, pack};
 ghost use Rattle.morphology.specs.Lists.{greatest as greatest_of, some_of};

@@ -1,4 +1,5 @@
 // Label buffers beside planes: labels written where one plane has a point that another lacks.
+#![tactic(auto)]
 
 ghost use Rattle.std.specs.Prelude.{◌≡◌, cond, ◌+◌, ◌*◌, ◌/◌, ◌<◌, ◌≤◌, ℕ, length};
 ghost use Rattle.morphology.specs.Image.{bit_of};

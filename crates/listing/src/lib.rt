@@ -1,4 +1,6 @@
 // The program of 01 but for its reading and writing: from the bytes read to the bytes printed.
+#![tactic(auto)]
+
 mod answer;
 mod text;
 

@@ -1,4 +1,6 @@
 // Whether a dilation of a plane leaves the frame: by the ink within the element's reach of an edge.
+#![tactic(auto)]
+
 ghost use Rattle.std.specs.Prelude.{◌≡◌, ◌+◌, ◌-◌, ◌*◌, ◌<◌, ◌≤◌, T, get_or, length};
 ghost use Rattle.std.specs.Int.Bits.{bit_or};
 ghost use Rattle.morphology.specs.Element.{offsets, bit};

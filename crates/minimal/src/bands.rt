@@ -3,7 +3,7 @@ ghost use Rattle.std.specs.Prelude.{◌+◌, ◌*◌, ◌-◌, ◌≤◌, length
 ghost use Rattle.minimal.specs.Bands.{Blank, Strip, Bounds};
 
 // What is not blank of a plane, with a margin or not: the rows between those above and under, and of these the bytes from left on, up to right.
-#[derive(Drop)]
+#[derive(Clone, Copy)]
 pub struct Band {
     pub above: usize,
     pub under: usize,

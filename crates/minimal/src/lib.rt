@@ -1,4 +1,6 @@
 // Minimisation, "shortening" in 01: public.
+#![tactic(auto)]
+
 mod bands;
 mod covers;
 mod places;

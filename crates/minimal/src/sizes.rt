@@ -89,7 +89,8 @@ pub fn reach_size(
     ensures work { Left p work.old work.new }
     ensures clipped { result ≡ false }
 {
-    if n == 0 {
+    let first = n == 0;
+    if first {
         return false;
     }
     iteration::dilate_step(w, h, r, p, element, work)

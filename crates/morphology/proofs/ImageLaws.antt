@@ -17,7 +17,7 @@ use lib.Seq.{ext_get_or}
 use Rattle.morphology.specs.Image.{bit_of, clip, from_bits, image_set, inside, on_frame, is_clean, pack, pixel, plane_bytes, stride}
 use Rattle.morphology.specs.Lists.{every_of, tabulate, up_to}
 use Rattle.morphology.specs.Point.{Point, at}
-use Rattle.morphology.proofs.FrameLaws.{OnFrame, far, on_in, on_out}
+use Rattle.morphology.proofs.FrameLaws.{OnFrame, on_in, on_out}
 use Rattle.morphology.proofs.TestLaws.{T_ext, all_in, all-out, and_in, and_l, and_r}
 
 -- ---- rows

@@ -9,7 +9,7 @@ use native.Mathlib.Nat.{add-suc, add-zero}
 use native.Mathlib.Omega.{arith}
 use lib.Dec.{T, leb, leb→le, nleb→lt}
 use Rattle.morphology.specs.Morphology.{dilate, erode, minkowski, opening, times}
-use Rattle.morphology.specs.Point.{Point, ◌⊞◌, at, minus, origin}
+use Rattle.morphology.specs.Point.{Point, ◌⊞◌, minus, origin}
 use Rattle.morphology.proofs.PointLaws.{assoc, comm, inv, unit}
 use Rattle.morphology.proofs.TestLaws.{T_ext, all_in, all-out, any_in, any_out, decide, map_mem, mem-map}
 
@@ -99,6 +99,7 @@ open_idem B X = open-dilate B (erode B X)
 -- ---- sums of elements
 pub sum_in : (A B : List Point) {a b : Point} → Memᴰ a A → Memᴰ b B → Memᴰ (a ⊞ b) (minkowski A B)
 unfolding minkowski
+sum_in [] B k m = elim k [ ]
 sum_in (x ∷ A) B {b = b} (Memᴰ.head e) m = Memᴰ.append_left (minkowski A B) (Memᴰ.cast (ap (λ (k : Point). k ⊞ b) e) (mem-map (λ c. x ⊞ c) m))
 sum_in (x ∷ A) B (Memᴰ.tail k) m = Memᴰ.append_right (map (λ c. x ⊞ c) B) (sum_in A B k m)
 

@@ -89,6 +89,7 @@ count-part p q (a ∷ l) f = go (p a) (q a) (f a) (count-part p q l f)
 pub count-whole : {A : Type 0} (p q : A → Bool) {a : A} (l : List A) → ((b : A) → T (p b) → T (q b)) → count_of p l ≡ count_of q l → Memᴰ a l → T (q a)
     → T (p a)
 unfolding count_of
+count-whole p q [] f e k t = elim k [ ]
 count-whole p q {a} (x ∷ l) f e (Memᴰ.head r) t =
     subst (λ (b : _). T (p b)) (sym r) (go (p x) (q x) e (subst (λ (b : _). T (q b)) r t))
   where

@@ -1,1 +1,2 @@
 // No code: specs/ has the definitions of document 01, proofs/ their laws.
+#![tactic(auto)]

@@ -1,4 +1,6 @@
 // What an element asks of the pixels around each pixel, joined to a plane by strips of rows.
+#![tactic(auto)]
+
 ghost use Rattle.std.specs.Prelude.{◌≡◌, not, ◌&&◌, cond, false, ◌+◌, ◌*◌, ◌<◌, ◌≤◌, min, eqb, length};
 ghost use Rattle.raster.specs.Limits.{max_frame, max_stride};
 ghost use Rattle.raster.specs.Rows.{Pixelwise, PlaneIs, RowJoined, read_bit, row_bit};

@@ -1,4 +1,6 @@
 // Numbers in bytes, lowest first.
+#![tactic(auto)]
+
 ghost use Rattle.std.specs.Prelude.{◌≡◌, ◌+◌, ◌*◌, ◌≤◌, length};
 ghost use Rattle.numbers.specs.Numbers.{counter_bytes, counters_of, four_bytes, number_at};
 

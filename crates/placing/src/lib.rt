@@ -1,4 +1,6 @@
 // The points of one size, read from a stream into a plane that has their mask.
+#![tactic(auto)]
+
 ghost use Rattle.std.specs.Prelude.{◌||◌, ◌≡◌, ◌+◌, ◌*◌, ◌-◌, ◌/◌, ◌<◌, ◌≤◌, ◌^◌, T, length};
 ghost use Rattle.coding.specs.Symbols.{symbols_of};
 ghost use Rattle.morphology.specs.Element.{bit};

@@ -1,4 +1,6 @@
 // One erosion, dilation or opening of a plane in the lent work.
+#![tactic(auto)]
+
 ghost use Rattle.std.specs.Prelude.{◌≡◌, Bool, ◌&&◌, false, ◌+◌, ◌*◌, ◌<◌, ◌≤◌, ltb, T, length};
 ghost use Rattle.morphology.specs.Element.{offsets, bit};
 ghost use Rattle.morphology.specs.Falls.{falls_off};

@@ -1,4 +1,6 @@
 // Rows and planes of packed pixels.
+#![tactic(auto)]
+
 pub mod bands;
 mod counts;
 
@@ -196,7 +198,8 @@ pub fn is_clean(s: &[u8], w: usize, h: usize, r: usize) -> bool
     let m = 1u8 << ((r * 8 - w) as u32);
     let mut y: usize = 0;
     while y < h {
-        if s[y * r + (r - 1)] % m != 0 {
+        let last = y * r + (r - 1);
+        if s[last] % m != 0 {
             return false;
         }
         y = y + 1;

@@ -27,7 +27,7 @@ use Rattle.morphology.proofs.DecomposeLaws.{subset_turn}
 use Rattle.morphology.proofs.ElementLaws.{Element}
 use Rattle.morphology.proofs.FrameLaws.{OnFrame}
 use Rattle.morphology.proofs.LabelLaws.{label_at_le, length-raster}
-use Rattle.morphology.proofs.MorphologyLaws.{◌⊆◌, dilate-out, dilate-zero, eroded-suc, eroded-zero, set_ext, ⊆_of_eq}
+use Rattle.morphology.proofs.MorphologyLaws.{dilate-out, dilate-zero, eroded-suc, eroded-zero, set_ext, ⊆_of_eq}
 use Rattle.morphology.proofs.PlaneLaws.{Empty, empty_eq, none as nowhere}
 use Rattle.morphology.proofs.ReconstructLaws.{dilated-suc, partial-top, reconstruction_on, union-dilated, union_turn}
 use Rattle.morphology.proofs.SubsetLaws.{eroded-down, subset_in}

@@ -45,7 +45,7 @@ use Rattle.morphology.proofs.FallsLaws.{falls_on, falls-some}
 use Rattle.morphology.proofs.FrameLaws.{OnFrame, on_out}
 use Rattle.morphology.proofs.ImageLaws.{mem-row, row_mem}
 use Rattle.morphology.proofs.LabelLaws.{of_places}
-use Rattle.morphology.proofs.MorphologyLaws.{◌⊆◌, dilate_in, dilate-out, ⊆_of_eq}
+use Rattle.morphology.proofs.MorphologyLaws.{dilate_in, dilate-out, ⊆_of_eq}
 use Rattle.morphology.proofs.PlaneLaws.{Empty, none as nowhere, none_on}
 use Rattle.morphology.proofs.ReconstructLaws.{tame_on, union_on}
 use Rattle.morphology.proofs.RefusalLaws.{false_of, first-hit, first_miss, not-T-false, or_in-false}

@@ -1,4 +1,6 @@
 // Symbols of codes read from bytes: runs, and where a size ends.
+#![tactic(auto)]
+
 ghost use Rattle.std.specs.Prelude.{◌≡◌, ◌*◌, ◌<◌, ◌^◌, length, get_or, drop};
 ghost use Rattle.coding.specs.Symbols.{symbols_of};
 ghost use Rattle.reading.specs.Nexts.{Nearby, next_of};
@@ -36,7 +38,8 @@ fn take_run(stream: &[u8], at: usize, limit: u32) -> Next
         if s == 0 {
             return Next::Run { left: v, at: j + 1 };
         }
-        if v == 0 {
+        let lead = v == 0;
+        if lead {
             return Next::Lost;
         }
         v = v * 3 + (s - 1) as u32;

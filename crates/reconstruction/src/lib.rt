@@ -1,4 +1,6 @@
 // Labels reconstructed in the first plane of work: from the largest size down to a cut.
+#![tactic(auto)]
+
 ghost use Rattle.std.specs.Prelude.{false, ◌≡◌, ◌*◌, ◌-◌, ◌<◌, ◌≤◌, length, replicate, take};
 ghost use Rattle.morphology.specs.Element.{offsets};
 ghost use Rattle.morphology.specs.Falls.{falls_off};

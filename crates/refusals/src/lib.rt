@@ -1,4 +1,6 @@
 // The tests of the table of refusals that operations share, and their order.
+#![tactic(auto)]
+
 ghost use Rattle.std.specs.Prelude.{◌≡◌, cond, false, [], ◌∷◌, ◌<◌, eqb};
 ghost use Rattle.morphology.specs.Image.{plane_bytes};
 ghost use Rattle.morphology.specs.Refusals.{is_side, not_plane, not_places, short_planes, short_work, row1, row2, row3, row4, row7, first_refusal};

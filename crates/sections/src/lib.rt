@@ -1,4 +1,6 @@
 // The runs of one size, from a plane of foreground and a plane of mask: measured, or written.
+#![tactic(auto)]
+
 mod words;
 
 ghost use Rattle.std.specs.Prelude.{◌≡◌, ◌+◌, ◌*◌, ◌/◌, ◌<◌, ◌≤◌, ◌^◌, T, length, drop};

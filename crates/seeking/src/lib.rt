@@ -1,4 +1,6 @@
 // Words of up to 64 pixels: the points that the runs of a stream place in them.
+#![tactic(auto)]
+
 ghost use Rattle.std.specs.Prelude.{false, ◌≡◌, ℕ, ◌+◌, ◌*◌, ◌/◌, ◌<◌, ◌≤◌, ◌^◌, T, drop, replicate};
 ghost use Rattle.std.specs.Int.Count.{ones};
 ghost use Rattle.coding.specs.Symbols.{symbols_of};
@@ -105,7 +107,8 @@ fn short_runs(stream: &[u8], at: usize, top: u32) -> Short
                         at: j,
                     };
                 }
-                if first < 2 {
+                let leads = first < 2;
+                if leads {
                     return Short {
                         points,
                         top: rest,

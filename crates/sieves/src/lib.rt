@@ -1,4 +1,6 @@
 // A sieve of document 01 as running code: what the theorem about lists of sieves speaks of.
+#![tactic(auto)]
+
 ghost use Rattle.std.specs.Prelude.{[], ◌∷◌, ◌≡◌};
 ghost use Rattle.morphology.specs.Answers.{outcome};
 ghost use Rattle.skeleton.specs.Decomposed.{answer_of as decomposed_answer};

@@ -1,4 +1,6 @@
 // Erosion and opening by n-fold elements, decomposition, reconstruction at a cut: public.
+#![tactic(auto)]
+
 ghost use Rattle.std.specs.Prelude.{false, ◌≡◌, [], ◌∷◌, ◌≤◌, T};
 ghost use Rattle.morphology.specs.Answers.{outcome};
 ghost use Rattle.morphology.specs.Element.{offsets, is_element};

@@ -19,7 +19,9 @@ fn clear_row(w: usize, h: usize, y: usize, row: &mut [u8])
     requires { Frame w h (length row.old) × (y < h) }
     ensures { Pixelwise row.old row.new (λ x b. b && (inner w x && inner h y)) }
 {
-    if y == 0 || y + 1 == h {
+    let first = y == 0;
+    let last = y + 1 == h;
+    if first || last {
         raster::fill(row, 0);
         return;
     }

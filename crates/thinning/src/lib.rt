@@ -1,4 +1,6 @@
 // Hit-or-miss by one mask and thinning by the house set: public.
+#![tactic(auto)]
+
 mod edges;
 
 ghost use Rattle.std.specs.Prelude.{◌≡◌, false, [], ◌∷◌, ◌*◌, ◌<◌, ◌≤◌, T, length};
@@ -37,7 +39,7 @@ struct Tally {
 }
 
 // A hit-or-miss mask: foreground, background.
-#[derive(Drop)]
+#[derive(Clone, Copy)]
 struct Mask {
     fg: u32,
     bg: u32,

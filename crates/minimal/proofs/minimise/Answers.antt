@@ -1,0 +1,19 @@
+-- `minimal::minimise`: what is left of the labels is the outcome.
+use Rattle.minimal.proofs.MinimiseLaws.{minimise_done, minimise-refused, passed}
+use Rattle.minimal.proofs.minimise.Goals as goal
+
+pub returns-then-no-ne0 : goal.returns-then-no-ne0
+returns-then-no-ne0 c =
+    let a = c.args in
+    minimise-refused a.w a.h a.element a.labels.now a.work.now a.counters.now _ c.minimise_refusal-no.ensures c.if-no-ne0.true
+
+pub minimise_into-shorter-requires : goal.minimise_into-shorter-requires
+minimise_into-shorter-requires c =
+    let a = c.args in
+    passed a.w a.h a.element a.labels.now a.work.now a.counters.now c.minimise_refusal-no.ensures c.if-no-ne0.false
+
+pub returns : goal.returns
+returns c =
+    let a = c.args in
+    minimise_done a.w a.h a.element a.labels.now a.work.now a.counters.now _ c.minimise_refusal-no.ensures _ _ _ _ c.if-no-ne0.false
+    c.minimise_into-shorter.ensures.done

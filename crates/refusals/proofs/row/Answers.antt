@@ -1,0 +1,11 @@
+-- `refusals::row` meets its contract.
+use mathlib.Core.List.{[]}
+use mathlib.Core.Path.{◌∙◌, sym}
+use Rattle.morphology.proofs.RefusalLaws.{first-hit, first_miss, first-none}
+use Rattle.refusals.proofs.row.Goals as goal
+
+pub returns-then-holds : goal.returns-then-holds
+returns-then-holds c = sym (first-hit _ _ [] c.if-holds.true)
+
+pub returns : goal.returns
+returns c = sym (first_miss _ _ [] c.if-holds.false ∙ first-none)

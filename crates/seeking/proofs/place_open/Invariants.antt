@@ -1,0 +1,11 @@
+-- `seeking::place_open` meets its contract. Before each turn the walk stands after a point, with `top` pixels left, and what follows is at symbol j;
+-- `top` falls.
+use Rattle.coding.specs.Symbols.{symbols_of}
+use Rattle.seeking.proofs.OpenWordLaws.{OpenWalk}
+use Rattle.seeking.proofs.place_open.Given as goal
+
+abbrev pub invariant-loop-end : goal.invariant-loop-end
+invariant-loop-end l = OpenWalk (symbols_of l.stream) l.limit l.m l.left l.at l.points l.top l.j
+
+abbrev pub decreases-loop-end : goal.decreases-loop-end
+decreases-loop-end l = l.top
