@@ -1,4 +1,4 @@
-//! Runs the proved programs of the repository. They are in target/bin once `rt check` has passed.
+//! Runs the proved programs of the repository. Each is in its crate's folder out/ once `rt ci`, or `rt run` there, has passed.
 
 pub mod format;
 pub mod replay;
@@ -12,7 +12,9 @@ use std::thread;
 /// Where a program is.
 pub fn path(program: &str) -> PathBuf {
     Path::new(env!("CARGO_MANIFEST_DIR"))
-        .join("../../target/bin")
+        .join("../../crates")
+        .join(program)
+        .join("out")
         .join(program)
 }
 
@@ -23,7 +25,12 @@ pub fn start_on(program: &str, stdin: impl Into<Stdio>) -> Child {
         .stdin(stdin)
         .stdout(Stdio::piped())
         .spawn()
-        .unwrap_or_else(|error| panic!("{}: {error}; `rt check` builds it", path.display()))
+        .unwrap_or_else(|error| {
+            panic!(
+                "{}: {error}; `rt run` in its folder builds it",
+                path.display()
+            )
+        })
 }
 
 /// Starts a program with pipes for standard input and output.

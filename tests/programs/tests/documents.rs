@@ -13,10 +13,13 @@ fn read(path: &Path) -> String {
     fs::read_to_string(path).unwrap_or_else(|error| panic!("{}: {error}", path.display()))
 }
 
-/// The files of a folder, and of those below it.
+/// The files of a folder, and of those below it, but for what `rt` made in a crate's out/.
 fn files(folder: &Path, found: &mut Vec<PathBuf>) {
     for entry in fs::read_dir(folder).expect("a folder") {
         let path = entry.expect("an entry").path();
+        if path.ends_with("out") {
+            continue;
+        }
         if path.is_dir() {
             files(&path, found);
         } else {
@@ -53,6 +56,16 @@ fn edits() -> BTreeSet<String> {
         .collect()
 }
 
+/// What a file of specs/ or proofs/ declares: the name before the first colon of a line.
+fn declared(text: &str) -> Vec<String> {
+    let name = |line: &str| {
+        let words: Vec<_> = line.split_whitespace().collect();
+        let colon = words.iter().take(4).position(|&word| word == ":")?;
+        Some(words[colon.checked_sub(1)?].to_owned())
+    };
+    text.lines().filter_map(name).collect()
+}
+
 #[test]
 fn every_edit_is_listed_with_what_it_shows() {
     let claims = read(&root().join("docs/CLAIMS.md"));
@@ -84,6 +97,15 @@ fn every_edit_that_is_named_is_there() {
             .map(|path| read(path))
             .collect()
     };
+    // Definitions and theorems are spelled as edits and functions are.
+    let declared: BTreeSet<String> = crate_files()
+        .iter()
+        .filter(|path| {
+            path.extension()
+                .is_some_and(|extension| extension == "antt")
+        })
+        .flat_map(|path| declared(&read(path)))
+        .collect();
     let is_name = |word: &&str| {
         word.contains('_')
             && word.starts_with(|c: char| c.is_ascii_lowercase())
@@ -97,10 +119,11 @@ fn every_edit_that_is_named_is_there() {
         let known = edits.contains(*word)
             || sources.contains(&format!("fn {word}("))
             || tests.contains(&format!("fn {word}("))
+            || declared.contains(*word)
             || root().join("crates").join(word).is_dir();
         assert!(
             known,
-            "docs/CLAIMS.md names `{word}`, which is no edit, function, test or crate"
+            "docs/CLAIMS.md names `{word}`, which is no edit, function, test, crate, definition or theorem"
         );
     }
     assert!(named > 100, "{named} names");
