@@ -9,8 +9,8 @@ returns-then-first c =
     let a = c.args in
     row-cleared a.w a.h a.y a.row.now _
     (elim c.then-first.branch [
-      then-first-via-then-first t ↦ first-row a.h a.y t.if-first.true
-    | then-first-via-else-first+then-last t ↦ last_row a.h a.y t.if-last.true
+      | then-first-via-then-first t ↦ first-row a.h a.y t.if-first.true
+      | then-first-via-else-first+then-last t ↦ last_row a.h a.y t.if-last.true
     ])
     c.fill.ensures
 
