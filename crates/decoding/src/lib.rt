@@ -188,7 +188,8 @@ fn decode_into(
     let p = h * ((w + 7) / 8);
     let planes = 5 * p;
     let late = read_code(w, h, element, mark, stream, work);
-    if late != 0 {
+    let refuses = late != 0;
+    if refuses {
         raster::fill(&mut work[..planes], 0);
         return Written::Refused(late);
     }
@@ -214,7 +215,8 @@ pub fn decode(
     let wrong = refusals::not_plane(w, h, &image[..]);
     let short = refusals::short_planes(5, w, h, &work[..]);
     let refusal = refusals::shape_rows(w, h, element, wrong, short, false);
-    if refusal != 0 {
+    let refuses = refusal != 0;
+    if refuses {
         return Written::Refused(refusal);
     }
     decode_into(w as usize, h as usize, element, mark, stream, image, work)

@@ -305,7 +305,8 @@ pub fn encode(
         ≡ encoded w h element image.now out.old work.old }
 {
     let refusal = refusals::image_refusal(w, h, element, image, false, &work[..]);
-    if refusal != 0 {
+    let refuses = refusal != 0;
+    if refuses {
         return Encoded::Refused(refusal);
     }
     encode_into(w as usize, h as usize, element, image, out, work)

@@ -30,7 +30,8 @@ pub fn put_decimal(n: u32, at: usize, out: &mut [u8]) -> usize
     requires { TextFits (decimal n) at out.old }
     ensures { Appended (decimal n) at result out.old out.new }
 {
-    if n < 10 {
+    let short = n < 10;
+    if short {
         return put(b'0' + n as u8, at, out);
     }
     let last = put_decimal(n / 10, at, out);

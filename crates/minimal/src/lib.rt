@@ -98,7 +98,8 @@ pub fn minimise(
         ≡ minimised w h element labels.old work.old counters.old }
 {
     let no = minimise_refusal(w, h, element, &labels[..], &work[..], &counters[..]);
-    if no != 0 {
+    let refuses = no != 0;
+    if refuses {
         return Minimised::Refused(no);
     }
     let shorter = minimise_into(w as usize, h as usize, element, labels, work, counters);

@@ -35,7 +35,8 @@ pub fn sieve(
 {
     let first = skeleton::decompose(w, h, element, &image[..], labels, work);
     let refusal = refusal_of(first);
-    if refusal != 0 {
+    let refuses = refusal != 0;
+    if refuses {
         return Written::Refused(refusal);
     }
     skeleton::reconstruct(w, h, element, cut, &labels[..], image, work)

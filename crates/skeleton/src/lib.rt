@@ -76,7 +76,8 @@ pub fn erode(
         ≡ eroded w h element n image.now out.old work.old }
 {
     let refusal = fold_refusal(w, h, element, n, image, &out[..], &work[..]);
-    if refusal != 0 {
+    let refuses = refusal != 0;
+    if refuses {
         return Written::Refused(refusal);
     }
     let done = fold_into(w as usize, h as usize, element, n, 0, image, out, work);
@@ -97,7 +98,8 @@ pub fn open(
         ≡ opened w h element n image.now out.old work.old }
 {
     let number = fold_refusal(w, h, element, n, image, &out[..], &work[..]);
-    if number != 0 {
+    let refuses = number != 0;
+    if refuses {
         return Written::Refused(number);
     }
     let done = fold_into(w as usize, h as usize, element, n, n, image, out, work);
@@ -125,7 +127,8 @@ pub fn decompose(
         ≡ decomposed w h element image.now labels.old work.old }
 {
     let row = decompose_refusal(w, h, element, image, &labels[..], &work[..]);
-    if row != 0 {
+    let refuses = row != 0;
+    if refuses {
         return Decomposed::Refused(row);
     }
     let found = decomposition::decompose_into(w as usize, h as usize, element, image, labels, work);
@@ -178,7 +181,8 @@ pub fn reconstruct(
         ≡ reconstructed w h element cut labels.now image.old work.old }
 {
     let no = reconstruct_refusal(w, h, element, cut, labels, &image[..], &work[..]);
-    if no != 0 {
+    let refuses = no != 0;
+    if refuses {
         return Written::Refused(no);
     }
     let done = reconstruct_into(w as usize, h as usize, element, cut, labels, image, work);

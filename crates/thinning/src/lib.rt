@@ -121,7 +121,8 @@ pub fn hit_or_miss(w: u32, h: u32, fg: u32, bg: u32, image: &[u8], out: &mut [u8
     ensures { outcome (answer_of result) (out.new ∷ []) ≡ hit_or_miss w h (fg, bg) image.now out.old }
 {
     let refusal = hit_refusal(w, h, fg, bg, image, &out[..]);
-    if refusal != 0 {
+    let refuses = refusal != 0;
+    if refuses {
         return Written::Refused(refusal);
     }
     let wide = w as usize;
@@ -201,7 +202,8 @@ pub fn thin(w: u32, h: u32, image: &mut [u8], work: &mut [u8]) -> Thinned
         ≡ thin_whole w h image.old work.old }
 {
     let row = thin_refusal(w, h, &image[..], &work[..]);
-    if row != 0 {
+    let refuses = row != 0;
+    if refuses {
         return Thinned::Refused(row);
     }
     let r = (w as usize + 7) / 8;

@@ -10,15 +10,15 @@ use Rattle.decoding.specs.Marks.{mark_of}
 use Rattle.decoding.proofs.CodeLaws.{decode_ready, decode-rows}
 use Rattle.decoding.proofs.decode.Goals as goal
 
-pub returns-then-refusal-ne0 : goal.returns-then-refusal-ne0
+pub returns-then-refuses : goal.returns-then-refuses
 unfolding decoded
-returns-then-refusal-ne0 c =
+returns-then-refuses c =
     let answered : c.shape_rows-refusal.result ≡ first_refusal (let a = c.args in decode_rows a.w a.h a.element a.image.now a.work.now) =
     let a = c.args in
     decode-rows a.w a.h a.element _ _ a.image.now a.work.now c.not_plane-wrong.ensures c.short_planes-short.ensures c.shape_rows-refusal.ensures in
     checked_refused (let a = c.args in decode_rows a.w a.h a.element a.image.now a.work.now) (c.args.image.now ∷ c.args.work.now ∷ [])
     (let a = c.args in let B = offsets a.element in let n = mark_of a.mark in decoding a.w a.h (code_rows a.w a.h B n a.stream.now) (code_set a.w a.h B n a.stream.now) a.image.now a.work.now)
-    _ answered c.if-refusal-ne0.true
+    _ answered c.if-refuses.true
 
 pub decode_into-requires : goal.decode_into-requires
 decode_into-requires c =
@@ -26,7 +26,7 @@ decode_into-requires c =
     let a = c.args in
     decode-rows a.w a.h a.element _ _ a.image.now a.work.now c.not_plane-wrong.ensures c.short_planes-short.ensures c.shape_rows-refusal.ensures in
     let a = c.args in
-    decode_ready a.w a.h a.element a.image.now a.work.now answered c.if-refusal-ne0.false
+    decode_ready a.w a.h a.element a.image.now a.work.now answered c.if-refuses.false
 
 pub returns : goal.returns
 unfolding decoded
@@ -36,4 +36,4 @@ returns c =
     decode-rows a.w a.h a.element _ _ a.image.now a.work.now c.not_plane-wrong.ensures c.short_planes-short.ensures c.shape_rows-refusal.ensures in
     c.decode_into.ensures
     ∙ sym
-    (unless_in (first_refusal (let a = c.args in decode_rows a.w a.h a.element a.image.now a.work.now)) (c.args.image.now ∷ c.args.work.now ∷ []) (let a = c.args in let B = offsets a.element in let n = mark_of a.mark in decoding a.w a.h (code_rows a.w a.h B n a.stream.now) (code_set a.w a.h B n a.stream.now) a.image.now a.work.now) (sym answered ∙ c.if-refusal-ne0.false))
+    (unless_in (first_refusal (let a = c.args in decode_rows a.w a.h a.element a.image.now a.work.now)) (c.args.image.now ∷ c.args.work.now ∷ []) (let a = c.args in let B = offsets a.element in let n = mark_of a.mark in decoding a.w a.h (code_rows a.w a.h B n a.stream.now) (code_set a.w a.h B n a.stream.now) a.image.now a.work.now) (sym answered ∙ c.if-refuses.false))

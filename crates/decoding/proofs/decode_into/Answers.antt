@@ -28,16 +28,16 @@ slice_bounds-fill-end c =
     omega (arith, bytes, c.read_code-late.ensures.kept.size, c.requires.3) in
     long
 
-pub slice_bounds-fill-end-then-late-ne0 : goal.slice_bounds-fill-end-then-late-ne0
-slice_bounds-fill-end-then-late-ne0 c =
+pub slice_bounds-fill-end-then-refuses : goal.slice_bounds-fill-end-then-refuses
+slice_bounds-fill-end-then-refuses c =
     let sheet : Sheet c.args.w c.args.h ((c.args.w + 7) / 8) (c.args.h * ((c.args.w + 7) / 8)) = frame-sheet c.requires.0 in
     let bytes : (c.args.h * ((c.args.w + 7) / 8)) ≡ plane_bytes c.args.w c.args.h = sheet-bytes sheet in
     let long : 5 * (c.args.h * ((c.args.w + 7) / 8)) ≤ length c.read_code-late.new.work =
     omega (arith, bytes, c.read_code-late.ensures.kept.size, c.requires.3) in
     sym (length-take-le (5 * (c.args.h * ((c.args.w + 7) / 8))) c.read_code-late.new.work long)
 
-pub returns-then-late-ne0 : goal.returns-then-late-ne0
-returns-then-late-ne0 c =
+pub returns-then-refuses : goal.returns-then-refuses
+returns-then-refuses c =
     let sheet : Sheet c.args.w c.args.h ((c.args.w + 7) / 8) (c.args.h * ((c.args.w + 7) / 8)) = frame-sheet c.requires.0 in
     let bytes : (c.args.h * ((c.args.w + 7) / 8)) ≡ plane_bytes c.args.w c.args.h = sheet-bytes sheet in
     let long : 5 * (c.args.h * ((c.args.w + 7) / 8)) ≤ length c.read_code-late.new.work =
@@ -46,7 +46,7 @@ returns-then-late-ne0 c =
     let d = c.read_code-late.ensures in
     outcome-refused d a.image.now _
     (code-cleared a.w a.h (c.args.h * ((c.args.w + 7) / 8)) a.work.now c.read_code-late.new.work _ bytes d.kept long c.fill.ensures)
-    c.if-late-ne0.true
+    c.if-refuses.true
 
 pub slice_bounds-count_ones-end : goal.slice_bounds-count_ones-end
 slice_bounds-count_ones-end c =
@@ -125,4 +125,4 @@ returns c =
     let same = ap (λ (p : ℕ). take p c.read_code-late.new.work) bytes in
     outcome_read d a.image.now _
     (code-cleared a.w a.h (c.args.h * ((c.args.w + 7) / 8)) a.work.now c.read_code-late.new.work _ bytes d.kept long c.fill-2.ensures) _ _
-    c.if-late-ne0.false (c.count_ones-ones.ensures ∙ ap ones_of same) (c.copy.ensures ∙ same)
+    c.if-refuses.false (c.count_ones-ones.ensures ∙ ap ones_of same) (c.copy.ensures ∙ same)

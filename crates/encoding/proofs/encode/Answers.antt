@@ -10,18 +10,18 @@ use Rattle.morphology.proofs.RefusalLaws.{checked_refused, unless_in}
 use Rattle.encoding.proofs.OutcomeLaws.{encode_ready}
 use Rattle.encoding.proofs.encode.Goals as goal
 
-pub returns-then-refusal-ne0 : goal.returns-then-refusal-ne0
+pub returns-then-refuses : goal.returns-then-refuses
 unfolding encoded
-returns-then-refusal-ne0 c =
+returns-then-refuses c =
     let a = c.args in
     let X = image_set a.w a.h a.image.now in
     checked_refused (encode_rows a.w a.h a.element a.image.now a.work.now) (a.out.now ∷ a.work.now ∷ [])
-    (coding a.w a.h (code_of a.w a.h (offsets a.element) X) a.out.now a.work.now) _ c.image_refusal-refusal.ensures c.if-refusal-ne0.true
+    (coding a.w a.h (code_of a.w a.h (offsets a.element) X) a.out.now a.work.now) _ c.image_refusal-refusal.ensures c.if-refuses.true
 
 pub encode_into-requires : goal.encode_into-requires
 encode_into-requires c =
     let a = c.args in
-    encode_ready a.w a.h a.element a.image.now a.work.now c.image_refusal-refusal.ensures c.if-refusal-ne0.false
+    encode_ready a.w a.h a.element a.image.now a.work.now c.image_refusal-refusal.ensures c.if-refuses.false
 
 pub returns : goal.returns
 unfolding encoded
@@ -30,4 +30,4 @@ returns c =
     let X = image_set a.w a.h a.image.now in
     c.encode_into.ensures
     ∙ sym
-    (unless_in (first_refusal (encode_rows a.w a.h a.element a.image.now a.work.now)) (a.out.now ∷ a.work.now ∷ []) (coding a.w a.h (code_of a.w a.h (offsets a.element) X) a.out.now a.work.now) (sym c.image_refusal-refusal.ensures ∙ c.if-refusal-ne0.false))
+    (unless_in (first_refusal (encode_rows a.w a.h a.element a.image.now a.work.now)) (a.out.now ∷ a.work.now ∷ []) (coding a.w a.h (code_of a.w a.h (offsets a.element) X) a.out.now a.work.now) (sym c.image_refusal-refusal.ensures ∙ c.if-refuses.false))

@@ -2,18 +2,18 @@
 use Rattle.minimal.proofs.MinimiseLaws.{minimise_done, minimise-refused, passed}
 use Rattle.minimal.proofs.minimise.Goals as goal
 
-pub returns-then-no-ne0 : goal.returns-then-no-ne0
-returns-then-no-ne0 c =
+pub returns-then-refuses : goal.returns-then-refuses
+returns-then-refuses c =
     let a = c.args in
-    minimise-refused a.w a.h a.element a.labels.now a.work.now a.counters.now _ c.minimise_refusal-no.ensures c.if-no-ne0.true
+    minimise-refused a.w a.h a.element a.labels.now a.work.now a.counters.now _ c.minimise_refusal-no.ensures c.if-refuses.true
 
 pub minimise_into-shorter-requires : goal.minimise_into-shorter-requires
 minimise_into-shorter-requires c =
     let a = c.args in
-    passed a.w a.h a.element a.labels.now a.work.now a.counters.now c.minimise_refusal-no.ensures c.if-no-ne0.false
+    passed a.w a.h a.element a.labels.now a.work.now a.counters.now c.minimise_refusal-no.ensures c.if-refuses.false
 
 pub returns : goal.returns
 returns c =
     let a = c.args in
-    minimise_done a.w a.h a.element a.labels.now a.work.now a.counters.now _ c.minimise_refusal-no.ensures _ _ _ _ c.if-no-ne0.false
+    minimise_done a.w a.h a.element a.labels.now a.work.now a.counters.now _ c.minimise_refusal-no.ensures _ _ _ _ c.if-refuses.false
     c.minimise_into-shorter.ensures.done

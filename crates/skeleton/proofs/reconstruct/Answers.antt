@@ -8,22 +8,22 @@ use Rattle.skeleton.proofs.OutcomeLaws.{writes_done}
 use Rattle.skeleton.proofs.ReadyLaws.{kept_ready}
 use Rattle.skeleton.proofs.reconstruct.Goals as goal
 
-pub returns-then-no-ne0 : goal.returns-then-no-ne0
+pub returns-then-refuses : goal.returns-then-refuses
 unfolding reconstructed
-returns-then-no-ne0 c =
+returns-then-refuses c =
     let a = c.args in
     checked_refused (reconstruct_rows a.w a.h a.element a.cut a.labels.now a.image.now a.work.now) (a.image.now ∷ a.work.now ∷ [])
-    (writes a.w a.h (reconstruction a.w a.h (offsets a.element) a.cut a.labels.now) a.work.now) _ c.reconstruct_refusal-no.ensures c.if-no-ne0.true
+    (writes a.w a.h (reconstruction a.w a.h (offsets a.element) a.cut a.labels.now) a.work.now) _ c.reconstruct_refusal-no.ensures c.if-refuses.true
 
 pub reconstruct_into-done-requires : goal.reconstruct_into-done-requires
 reconstruct_into-done-requires c =
     let a = c.args in
-    kept_ready a.w a.h a.element a.cut a.labels.now a.image.now a.work.now c.reconstruct_refusal-no.ensures c.if-no-ne0.false
+    kept_ready a.w a.h a.element a.cut a.labels.now a.image.now a.work.now c.reconstruct_refusal-no.ensures c.if-refuses.false
 
 pub returns : goal.returns
 unfolding reconstructed
 returns c =
     let a = c.args in
     writes_done (reconstruct_rows a.w a.h a.element a.cut a.labels.now a.image.now a.work.now) a.w a.h
-    (reconstruction a.w a.h (offsets a.element) a.cut a.labels.now) a.image.now a.work.now _ _ _ _ c.reconstruct_refusal-no.ensures c.if-no-ne0.false
+    (reconstruction a.w a.h (offsets a.element) a.cut a.labels.now) a.image.now a.work.now _ _ _ _ c.reconstruct_refusal-no.ensures c.if-refuses.false
     c.reconstruct_into-done.ensures.image
