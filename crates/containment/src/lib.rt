@@ -120,7 +120,8 @@ pub fn is_wild(w: usize, h: usize, element: u32, labels: &[u8]) -> bool
     requires { (w ≤ max_frame) × (length labels.now ≡ w * h) × T (is_element element) }
     ensures { result ≡ is_wild w h (offsets element) labels.now }
 {
-    if label_read::greatest(labels) <= 1 {
+    let tame = label_read::greatest(labels) <= 1;
+    if tame {
         return false;
     }
     has_wild(w, h, element, labels)

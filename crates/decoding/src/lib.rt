@@ -87,7 +87,8 @@ fn read_sizes(
         }
     }
     let held = raster::has_ink(&work[..p]);
-    if !held {
+    let empty = !held;
+    if empty {
         return Joined::Bad;
     }
     let mut n = largest;

@@ -116,7 +116,8 @@ fn move_strip(buf: &[u8], s: u32, r: usize, m: usize, strip: &mut [u8])
     ensures { Moved buf.now s r m strip.new }
 {
     move_bytes(buf, s, &mut strip[..m * r]);
-    if s != 8 {
+    let wraps = s != 8;
+    if wraps {
         clear_ends(strip, s, r, m);
     }
 }
@@ -164,9 +165,13 @@ fn join_moved(
     ensures { PlaneJoined dilating 0 r n dst.old dst.new
         (λ y x. column_of dilating column (λ k. strip_bit inverse buf.now r (x + (turned dilating j + 6)) (y + k))) }
 {
-    if column % 2 + column / 32 % 2 + column / 1024 % 2 + column / 32768 % 2 + column / 1048576 % 2
-        == 0
-    {
+    let points = column % 2
+        + column / 32 % 2
+        + column / 1024 % 2
+        + column / 32768 % 2
+        + column / 1048576 % 2;
+    let empty = points == 0;
+    if empty {
         return;
     }
     move_strip(buf, reflect(dilating, j) as u32 + 6, r, n + 4, strip);

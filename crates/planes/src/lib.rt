@@ -61,7 +61,8 @@ pub fn dilate_plane(w: usize, h: usize, r: usize, p: usize, element: u32, work: 
 {
     let clipped = margins::falls_off(w, h, r, element, &work[..]);
     morph_plane(true, work, p, r, h, element);
-    if clipped {
+    let clears = clipped;
+    if clears {
         clear_rows(work, p, w, r, h);
     }
     clipped

@@ -77,7 +77,8 @@ pub fn first_run(stream: &[u8], at: usize, limit: u32) -> Next
     if second / 4 >= stream.len() {
         return Next::Lost;
     }
-    if symbol(stream, second) != 0 {
+    let digit = symbol(stream, second) != 0;
+    if digit {
         return Next::Lost;
     }
     Next::Ended(at + 2)

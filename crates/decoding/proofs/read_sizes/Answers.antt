@@ -101,8 +101,8 @@ slice_bounds-has_ink-end-2 c =
     let long : c.args.p ≤ length c.read_step.new.work = omega (arith, kept-so.size, c.requires.2) in
     sym (length-take-le c.args.p c.read_step.new.work long)
 
-pub shape_of-work-then-not-held : goal.shape_of-work-then-not-held
-shape_of-work-then-not-held c =
+pub shape_of-work-then-empty : goal.shape_of-work-then-empty
+shape_of-work-then-empty c =
     let kept : KeptFrom 3 c.args.p c.args.work.now (c.fill.new.dst ++ drop (2 * c.args.p) c.args.work.now) =
     let a = c.args in kept-cleared (2 * a.p) a.work.now _ (omega arith) (omega (arith, c.requires.2)) c.fill.ensures in
     let FirstStep : Joined → Type 0 =
@@ -114,8 +114,8 @@ shape_of-work-then-not-held c =
     let kept-so : KeptFrom 3 c.args.p c.args.work.now c.read_step.new.work = kept_on kept read.0 in
     kept-so.size
 
-pub returns-then-not-held : goal.returns-then-not-held
-returns-then-not-held c =
+pub returns-then-empty : goal.returns-then-empty
+returns-then-empty c =
     let held : SizesHeld c.args.w c.args.h c.args.p (offsets c.args.element) c.args.stream.now c.args.largest (suc c.args.largest) 0 true
     (c.fill.new.dst ++ drop (2 * c.args.p) c.args.work.now) =
     let a = c.args in held_none c.requires.0 (offsets a.element) a.stream.now a.largest a.work.now _ (omega (arith, c.requires.2)) c.fill.ensures in
@@ -129,7 +129,7 @@ returns-then-not-held c =
     let a = c.args in kept-cleared (2 * a.p) a.work.now _ (omega arith) (omega (arith, c.requires.2)) c.fill.ensures in
     let kept-so : KeptFrom 3 c.args.p c.args.work.now c.read_step.new.work = kept_on kept read.0 in
     let long : c.args.p ≤ length c.read_step.new.work = omega (arith, kept-so.size, c.requires.2) in
-    (kept-so, held-empty c.requires.0 held c.args.largest refl read.1 refl long (sym c.has_ink-held.ensures ∙ not-true _ (ap not c.if-not-held.true)))
+    (kept-so, held-empty c.requires.0 held c.args.largest refl read.1 refl long (sym c.has_ink-held.ensures ∙ not-true _ (ap not c.if-empty.true)))
 
 pub loop-n-init : goal.loop-n-init
 loop-n-init c =
@@ -142,7 +142,7 @@ loop-n-init c =
     StepRead a.w a.h a.p (offsets a.element) (symbols_of a.stream.now) 0 (c.fill.new.dst ++ drop (2 * c.args.p) c.args.work.now)
     c.read_step.new.work q) in
     let read : FirstStep (To c.in-To.at c.in-To.chained) = subst (FirstStep) c.in-To.is c.read_step.ensures in (
-      held_next c.requires.0 held c.args.largest refl read.1 (λ e. sym c.has_ink-held.ensures ∙ not-false _ (ap not c.if-not-held.false)),
+      held_next c.requires.0 held c.args.largest refl read.1 (λ e. sym c.has_ink-held.ensures ∙ not-false _ (ap not c.if-empty.false)),
       record { size = refl; rest = refl },
       le_refl c.args.largest,
     )

@@ -9,11 +9,11 @@ use Rattle.neighbours.proofs.NeighbourLaws.{turned_lt}
 use Rattle.neighbours.proofs.StripLaws.{rows-small, strip_column, strip-idle}
 use Rattle.neighbours.proofs.join_moved.Goals as goal
 
-pub returns-then-column-eq0 : goal.returns-then-column-eq0
-returns-then-column-eq0 c =
+pub returns-then-empty : goal.returns-then-empty
+returns-then-empty c =
     let a = c.args in
     strip-idle a.dilating a.r a.n a.column a.dst.now (λ y x k. strip_bit a.inverse a.buf.now a.r (x + (turned a.dilating a.j + 6)) (y + k))
-    c.if-column-eq0.true
+    c.if-empty.true
 
 pub overflow_cast-reflect : goal.overflow_cast-reflect
 overflow_cast-reflect c = omega (arith, c.reflect.ensures, turned_lt c.args.dilating c.args.j c.requires.0)

@@ -13,13 +13,13 @@ slice_bounds-move_bytes-end-2 c = sym (length-take-le (c.args.m * c.args.r) c.ar
 pub move_bytes-requires : goal.move_bytes-requires
 move_bytes-requires c = (c.requires.0, omega (arith, length-take-le (c.args.m * c.args.r) c.args.strip.now c.requires.3, c.requires.2))
 
-pub returns-then-s-ne8 : goal.returns-then-s-ne8
-returns-then-s-ne8 c =
+pub returns-then-wraps : goal.returns-then-wraps
+returns-then-wraps c =
     let a = c.args in
     strip-cleared a.buf.now _ a.s a.r a.m (strip-first (a.m * a.r) a.s a.buf.now a.strip.now _ c.requires.3 c.move_bytes.ensures) _
     c.clear_ends.ensures
 
-pub returns-else-s-ne8 : goal.returns-else-s-ne8
-returns-else-s-ne8 c =
+pub returns-else-wraps : goal.returns-else-wraps
+returns-else-wraps c =
     let a = c.args in
-    strip-whole a.buf.now _ a.s a.r a.m (strip-first (a.m * a.r) a.s a.buf.now a.strip.now _ c.requires.3 c.move_bytes.ensures) c.if-s-ne8.false
+    strip-whole a.buf.now _ a.s a.r a.m (strip-first (a.m * a.r) a.s a.buf.now a.strip.now _ c.requires.3 c.move_bytes.ensures) c.if-wraps.false

@@ -24,23 +24,23 @@ clear_rows-requires c =
     let f = frame_row q.0 in
     (omega (arith, q.2, c.morph_plane.ensures.size), f.0, f.1, f.2, f.3)
 
-pub returns-then-clipped : goal.returns-then-clipped
-returns-then-clipped c =
+pub returns-then-clears : goal.returns-then-clears
+returns-then-clears c =
     let a = c.args in
     record {
       plane =
           clip_done true a.w a.h a.r a.element a.work.now c.requires.0 c.requires.4 a.p _ c.requires.2
-          (λ i. (c.slice_known-then-clipped-1.given i).fits) (plane-cleared a.w c.morph_plane.ensures c.clear_rows.ensures);
+          (λ i. (c.slice_known-then-clears-1.given i).fits) (plane-cleared a.w c.morph_plane.ensures c.clear_rows.ensures);
       clipped = c.falls_off-clipped.ensures;
     }
 
-pub returns-else-clipped : goal.returns-else-clipped
-returns-else-clipped c =
+pub returns-else-clears : goal.returns-else-clears
+returns-else-clears c =
     let a = c.args in
     let t = c.falls_off-clipped.ensures in
     record {
       plane =
           dilation_done a.w a.h a.r a.p a.element a.work.now _ c.requires.0 c.requires.2 c.requires.4 (λ i. (c.slice_known-2-1.given i).fits)
-          (sym t ∙ c.if-clipped.false) c.morph_plane.ensures;
+          (sym t ∙ c.if-clears.false) c.morph_plane.ensures;
       clipped = t;
     }

@@ -29,16 +29,16 @@ returns-then-second-stream c =
     let e = sym c.symbol.ensures ∙ c.if-symbol-ne0.false in
     (first_one (symbols_of b) a.at a.limit h e (past-stream b (a.at + 1) c.if-second-stream.true), tt)
 
-pub returns-then-symbol-ne0-2 : goal.returns-then-symbol-ne0-2
-returns-then-symbol-ne0-2 c =
+pub returns-then-digit : goal.returns-then-digit
+returns-then-digit c =
     let a = c.args in
     let b = a.stream.now in
     let s = symbols_of b in
     let h = in-stream b a.at c.if-at-stream.false in
     let e = sym c.symbol.ensures ∙ c.if-symbol-ne0.false in
-    let n = c.symbol-2.result in
+    let n = c.symbol-digit.result in
     let k = in-stream b (a.at + 1) c.if-second-stream.false in
-    (first-lost s a.at a.limit h e (n - 1) k (digit_read n _ c.symbol-2.ensures c.if-symbol-ne0-2.true), tt)
+    (first-lost s a.at a.limit h e (n - 1) k (digit_read n _ c.symbol-digit.ensures c.if-digit.true), tt)
 
 pub returns : goal.returns
 returns c =
@@ -48,4 +48,4 @@ returns c =
     let h = in-stream b a.at c.if-at-stream.false in
     let e = sym c.symbol.ensures ∙ c.if-symbol-ne0.false in
     let k = in-stream b (a.at + 1) c.if-second-stream.false in
-    (first_ended s a.at a.limit h e k (sym c.symbol-2.ensures ∙ c.if-symbol-ne0-2.false), omega arith)
+    (first_ended s a.at a.limit h e k (sym c.symbol-digit.ensures ∙ c.if-digit.false), omega arith)
