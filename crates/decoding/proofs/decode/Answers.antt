@@ -1,4 +1,5 @@
 -- `decoding::decode` meets its contract.
+use native.Mathlib.Omega.{arith}
 use mathlib.Core.List.{[], ◌∷◌}
 use mathlib.Core.Path.{◌∙◌, ◌≡◌, sym}
 use Rattle.morphology.specs.Element.{offsets}
@@ -18,7 +19,7 @@ returns-then-refuses c =
     decode-rows a.w a.h a.element _ _ a.image.now a.work.now c.not_plane-wrong.ensures c.short_planes-short.ensures c.shape_rows-refusal.ensures in
     checked_refused (let a = c.args in decode_rows a.w a.h a.element a.image.now a.work.now) (c.args.image.now ∷ c.args.work.now ∷ [])
     (let a = c.args in let B = offsets a.element in let n = mark_of a.mark in decoding a.w a.h (code_rows a.w a.h B n a.stream.now) (code_set a.w a.h B n a.stream.now) a.image.now a.work.now)
-    _ answered c.if-refuses.true
+    _ answered (omega (arith, c.if-refuses.true))
 
 pub decode_into-requires : goal.decode_into-requires
 decode_into-requires c =
@@ -26,7 +27,7 @@ decode_into-requires c =
     let a = c.args in
     decode-rows a.w a.h a.element _ _ a.image.now a.work.now c.not_plane-wrong.ensures c.short_planes-short.ensures c.shape_rows-refusal.ensures in
     let a = c.args in
-    decode_ready a.w a.h a.element a.image.now a.work.now answered c.if-refuses.false
+    decode_ready a.w a.h a.element a.image.now a.work.now answered (omega (arith, c.if-refuses.false))
 
 pub returns : goal.returns
 unfolding decoded

@@ -46,7 +46,7 @@ returns-then-refuses c =
     let d = c.read_code-late.ensures in
     outcome-refused d a.image.now _
     (code-cleared a.w a.h (c.args.h * ((c.args.w + 7) / 8)) a.work.now c.read_code-late.new.work _ bytes d.kept long c.fill.ensures)
-    c.if-refuses.true
+    (omega (arith, c.if-refuses.true))
 
 pub slice_bounds-count_ones-end : goal.slice_bounds-count_ones-end
 slice_bounds-count_ones-end c =
@@ -125,4 +125,4 @@ returns c =
     let same = ap (λ (p : ℕ). take p c.read_code-late.new.work) bytes in
     outcome_read d a.image.now _
     (code-cleared a.w a.h (c.args.h * ((c.args.w + 7) / 8)) a.work.now c.read_code-late.new.work _ bytes d.kept long c.fill-2.ensures) _ _
-    c.if-refuses.false (c.count_ones-ones.ensures ∙ ap ones_of same) (c.copy.ensures ∙ same)
+    (omega (arith, c.if-refuses.false)) (c.count_ones-ones.ensures ∙ ap ones_of same) (c.copy.ensures ∙ same)

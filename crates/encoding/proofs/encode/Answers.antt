@@ -1,4 +1,5 @@
 -- `encoding::encode` meets its contract.
+use native.Mathlib.Omega.{arith}
 use mathlib.Core.List.{[], ◌∷◌}
 use mathlib.Core.Path.{◌∙◌, sym}
 use Rattle.coding.specs.Codes.{code_of}
@@ -16,12 +17,12 @@ returns-then-refuses c =
     let a = c.args in
     let X = image_set a.w a.h a.image.now in
     checked_refused (encode_rows a.w a.h a.element a.image.now a.work.now) (a.out.now ∷ a.work.now ∷ [])
-    (coding a.w a.h (code_of a.w a.h (offsets a.element) X) a.out.now a.work.now) _ c.image_refusal-refusal.ensures c.if-refuses.true
+    (coding a.w a.h (code_of a.w a.h (offsets a.element) X) a.out.now a.work.now) _ c.image_refusal-refusal.ensures (omega (arith, c.if-refuses.true))
 
 pub encode_into-requires : goal.encode_into-requires
 encode_into-requires c =
     let a = c.args in
-    encode_ready a.w a.h a.element a.image.now a.work.now c.image_refusal-refusal.ensures c.if-refuses.false
+    encode_ready a.w a.h a.element a.image.now a.work.now c.image_refusal-refusal.ensures (omega (arith, c.if-refuses.false))
 
 pub returns : goal.returns
 unfolding encoded

@@ -22,4 +22,4 @@ returns-then-wraps c =
 pub returns-else-wraps : goal.returns-else-wraps
 returns-else-wraps c =
     let a = c.args in
-    strip-whole a.buf.now _ a.s a.r a.m (strip-first (a.m * a.r) a.s a.buf.now a.strip.now _ c.requires.3 c.move_bytes.ensures) c.if-wraps.false
+    strip-whole a.buf.now _ a.s a.r a.m (strip-first (a.m * a.r) a.s a.buf.now a.strip.now _ c.requires.3 c.move_bytes.ensures) (omega (arith, c.if-wraps.false))

@@ -1,4 +1,4 @@
--- `reading::first_run_lem` meets its contract.
+-- `reading::first_run` meets its contract.
 use mathlib.Core.Path.{◌∙◌, sym}
 use Prim.Native.Nat.{◌+◌, ◌-◌}
 use native.Mathlib.Omega.{arith}
@@ -38,7 +38,7 @@ returns-then-digit c =
     let e = sym c.symbol.ensures ∙ c.if-symbol-ne0.false in
     let n = c.symbol-digit.result in
     let k = in-stream b (a.at + 1) c.if-second-stream.false in
-    (first-lost s a.at a.limit h e (n - 1) k (digit_read n _ c.symbol-digit.ensures c.if-digit.true), tt)
+    (first-lost s a.at a.limit h e (n - 1) k (digit_read n _ c.symbol-digit.ensures (omega (arith, c.if-digit.true))), tt)
 
 pub returns : goal.returns
 returns c =
@@ -48,4 +48,4 @@ returns c =
     let h = in-stream b a.at c.if-at-stream.false in
     let e = sym c.symbol.ensures ∙ c.if-symbol-ne0.false in
     let k = in-stream b (a.at + 1) c.if-second-stream.false in
-    (first_ended s a.at a.limit h e k (sym c.symbol-digit.ensures ∙ c.if-digit.false), omega arith)
+    (first_ended s a.at a.limit h e k (sym c.symbol-digit.ensures ∙ omega (arith, c.if-digit.false)), omega arith)

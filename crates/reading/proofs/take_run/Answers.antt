@@ -51,7 +51,7 @@ returns-then-lead c =
     let h = in-stream b l.j c.loop-j-test.true in
     let n = c.symbol-s.result in
     let e = digit_read n _ c.symbol-s.ensures c.if-s-eq0.false in
-    (taken_lead (symbols_of b) a.at a.limit l.v l.j l.invariant h (n - 1) e c.if-lead.true, tt)
+    (taken_lead (symbols_of b) a.at a.limit l.v l.j l.invariant h (n - 1) e (omega (arith, c.if-lead.true, c.if-v-limit.false)), tt)
 
 pub overflow_mul-v : goal.overflow_mul-v
 overflow_mul-v c = omega (arith, c.if-v-limit.false, c.requires.2)
@@ -76,7 +76,7 @@ loop-j-preserved c =
     let h = in-stream b l.j c.loop-j-test.true in
     let n = c.symbol-s.result in
     let e = digit_read n _ c.symbol-s.ensures c.if-s-eq0.false in
-    taken_more (symbols_of b) a.at a.limit l.v l.j l.invariant h (n - 1) e c.if-lead.false
+    taken_more (symbols_of b) a.at a.limit l.v l.j l.invariant h (n - 1) e (omega (arith, c.if-lead.false))
 
 pub returns : goal.returns
 returns c =

@@ -50,7 +50,7 @@ overflow_shl-points c =
     let more : c.loop-j.j + 3 ≤ c.args.at + 29 = omega (arith, c.loop-j-test.true) in
     elim c.if-three-ne0.branch [
       | then-three-ne0+else-three-ne0-2+else-leads t ↦
-          same_run t.pixels-is t.symbols-is (shown_two w more t.if-leads.false t.if-three-ne0.true t.if-three-ne0-2.false)
+          same_run t.pixels-is t.symbols-is (shown_two w more (omega (arith, t.if-leads.false)) t.if-three-ne0.true t.if-three-ne0-2.false)
       | else-three-ne0 t ↦
           same_run t.pixels-is t.symbols-is (shown_one w more c.if-first-eq0.false t.if-three-ne0.false)
     ] in
@@ -64,7 +64,7 @@ overflow_add-points c =
     let more : c.loop-j.j + 3 ≤ c.args.at + 29 = omega (arith, c.loop-j-test.true) in
     elim c.if-three-ne0.branch [
       | then-three-ne0+else-three-ne0-2+else-leads t ↦
-          same_run t.pixels-is t.symbols-is (shown_two w more t.if-leads.false t.if-three-ne0.true t.if-three-ne0-2.false)
+          same_run t.pixels-is t.symbols-is (shown_two w more (omega (arith, t.if-leads.false)) t.if-three-ne0.true t.if-three-ne0-2.false)
       | else-three-ne0 t ↦
           same_run t.pixels-is t.symbols-is (shown_one w more c.if-first-eq0.false t.if-three-ne0.false)
     ] in
@@ -77,7 +77,7 @@ overflow_mul-window-in-loop-j c =
     let more : c.loop-j.j + 3 ≤ c.args.at + 29 = omega (arith, c.loop-j-test.true) in
     elim c.if-three-ne0.branch [
       | then-three-ne0+else-three-ne0-2+else-leads t ↦
-          same_run t.pixels-is t.symbols-is (shown_two w more t.if-leads.false t.if-three-ne0.true t.if-three-ne0-2.false)
+          same_run t.pixels-is t.symbols-is (shown_two w more (omega (arith, t.if-leads.false)) t.if-three-ne0.true t.if-three-ne0-2.false)
       | else-three-ne0 t ↦
           same_run t.pixels-is t.symbols-is (shown_one w more c.if-first-eq0.false t.if-three-ne0.false)
     ] in
@@ -90,7 +90,7 @@ overflow_cast-window-in-loop-j c =
     let more : c.loop-j.j + 3 ≤ c.args.at + 29 = omega (arith, c.loop-j-test.true) in
     elim c.if-three-ne0.branch [
       | then-three-ne0+else-three-ne0-2+else-leads t ↦
-          same_run t.pixels-is t.symbols-is (shown_two w more t.if-leads.false t.if-three-ne0.true t.if-three-ne0-2.false)
+          same_run t.pixels-is t.symbols-is (shown_two w more (omega (arith, t.if-leads.false)) t.if-three-ne0.true t.if-three-ne0-2.false)
       | else-three-ne0 t ↦
           same_run t.pixels-is t.symbols-is (shown_one w more c.if-first-eq0.false t.if-three-ne0.false)
     ] in
@@ -103,7 +103,7 @@ overflow_shl-window-in-loop-j c =
     let more : c.loop-j.j + 3 ≤ c.args.at + 29 = omega (arith, c.loop-j-test.true) in
     elim c.if-three-ne0.branch [
       | then-three-ne0+else-three-ne0-2+else-leads t ↦
-          same_run t.pixels-is t.symbols-is (shown_two w more t.if-leads.false t.if-three-ne0.true t.if-three-ne0-2.false)
+          same_run t.pixels-is t.symbols-is (shown_two w more (omega (arith, t.if-leads.false)) t.if-three-ne0.true t.if-three-ne0-2.false)
       | else-three-ne0 t ↦
           same_run t.pixels-is t.symbols-is (shown_one w more c.if-first-eq0.false t.if-three-ne0.false)
     ] in
@@ -116,7 +116,7 @@ overflow_add-j c =
     let more : c.loop-j.j + 3 ≤ c.args.at + 29 = omega (arith, c.loop-j-test.true) in
     elim c.if-three-ne0.branch [
       | then-three-ne0+else-three-ne0-2+else-leads t ↦
-          same_run t.pixels-is t.symbols-is (shown_two w more t.if-leads.false t.if-three-ne0.true t.if-three-ne0-2.false)
+          same_run t.pixels-is t.symbols-is (shown_two w more (omega (arith, t.if-leads.false)) t.if-three-ne0.true t.if-three-ne0-2.false)
       | else-three-ne0 t ↦
           same_run t.pixels-is t.symbols-is (shown_one w more c.if-first-eq0.false t.if-three-ne0.false)
     ] in
@@ -129,7 +129,7 @@ loop-j-smaller c =
     let more : c.loop-j.j + 3 ≤ c.args.at + 29 = omega (arith, c.loop-j-test.true) in
     elim c.if-three-ne0.branch [
       | then-three-ne0+else-three-ne0-2+else-leads t ↦
-          same_run t.pixels-is t.symbols-is (shown_two w more t.if-leads.false t.if-three-ne0.true t.if-three-ne0-2.false)
+          same_run t.pixels-is t.symbols-is (shown_two w more (omega (arith, t.if-leads.false)) t.if-three-ne0.true t.if-three-ne0-2.false)
       | else-three-ne0 t ↦
           same_run t.pixels-is t.symbols-is (shown_one w more c.if-first-eq0.false t.if-three-ne0.false)
     ] in
@@ -142,7 +142,7 @@ loop-j-preserved c =
     let more : c.loop-j.j + 3 ≤ c.args.at + 29 = omega (arith, c.loop-j-test.true) in
     elim c.if-three-ne0.branch [
       | then-three-ne0+else-three-ne0-2+else-leads t ↦
-          same_run t.pixels-is t.symbols-is (shown_two w more t.if-leads.false t.if-three-ne0.true t.if-three-ne0-2.false)
+          same_run t.pixels-is t.symbols-is (shown_two w more (omega (arith, t.if-leads.false)) t.if-three-ne0.true t.if-three-ne0-2.false)
       | else-three-ne0 t ↦
           same_run t.pixels-is t.symbols-is (shown_one w more c.if-first-eq0.false t.if-three-ne0.false)
     ] in

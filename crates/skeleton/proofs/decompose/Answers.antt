@@ -1,4 +1,5 @@
 -- `skeleton::decompose`: what the turns found is the outcome; no turn had a point exactly where the image is empty.
+use native.Mathlib.Omega.{arith}
 use mathlib.Core.List.{[], ◌∷◌}
 use mathlib.Core.Path.{sym}
 use native.Mathlib.Nat.{pos_of_ne-zero}
@@ -18,20 +19,20 @@ returns-then-refuses c =
     let a = c.args in
     checked_refused (decompose_rows a.w a.h a.element a.image.now a.labels.now a.work.now) (a.labels.now ∷ a.work.now ∷ [])
     (labelled a.w a.h (skeleton_labels a.w a.h (offsets a.element) (image_set a.w a.h a.image.now)) a.work.now) _ c.decompose_refusal-row.ensures
-    c.if-refuses.true
+    (omega (arith, c.if-refuses.true))
 
 pub decompose_into-found-requires : goal.decompose_into-found-requires
 decompose_into-found-requires c =
     let a = c.args in
-    decompose_ready a.w a.h a.element a.image.now a.labels.now a.work.now c.decompose_refusal-row.ensures c.if-refuses.false
+    decompose_ready a.w a.h a.element a.image.now a.labels.now a.work.now c.decompose_refusal-row.ensures (omega (arith, c.if-refuses.false))
 
 pub returns-then-turns-eq0 : goal.returns-then-turns-eq0
 returns-then-turns-eq0 c =
     let a = c.args in
     let e = c.decompose_refusal-row.ensures in
     let d = c.decompose_into-found in
-    let r = decompose_ready a.w a.h a.element a.image.now a.labels.now a.work.now e c.if-refuses.false in
-    finished-outcome a.w a.h a.element r.4 a.image.now a.labels.now a.work.now _ _ _ d.result.turns d.result.points _ e c.if-refuses.false
+    let r = decompose_ready a.w a.h a.element a.image.now a.labels.now a.work.now e (omega (arith, c.if-refuses.false)) in
+    finished-outcome a.w a.h a.element r.4 a.image.now a.labels.now a.work.now _ _ _ d.result.turns d.result.points _ e (omega (arith, c.if-refuses.false))
     d.ensures.done d.ensures.work (sym (turns-blank d.result.turns d.result.points c.if-turns-eq0.true))
 
 pub returns : goal.returns
@@ -39,6 +40,6 @@ returns c =
     let a = c.args in
     let e = c.decompose_refusal-row.ensures in
     let d = c.decompose_into-found in
-    let r = decompose_ready a.w a.h a.element a.image.now a.labels.now a.work.now e c.if-refuses.false in
-    finished-outcome a.w a.h a.element r.4 a.image.now a.labels.now a.work.now _ _ _ d.result.turns d.result.points _ e c.if-refuses.false
+    let r = decompose_ready a.w a.h a.element a.image.now a.labels.now a.work.now e (omega (arith, c.if-refuses.false)) in
+    finished-outcome a.w a.h a.element r.4 a.image.now a.labels.now a.work.now _ _ _ d.result.turns d.result.points _ e (omega (arith, c.if-refuses.false))
     d.ensures.done d.ensures.work (sym (turns-skeleton d.result.turns d.result.points (pos_of_ne-zero c.if-turns-eq0.false)))

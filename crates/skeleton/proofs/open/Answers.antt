@@ -16,12 +16,12 @@ returns-then-refuses c =
     let a = c.args in
     checked_refused (fold_rows a.w a.h a.element a.n a.image.now a.out.now a.work.now) (a.out.now ∷ a.work.now ∷ [])
     (writes a.w a.h (opening (times (offsets a.element) a.n) (image_set a.w a.h a.image.now)) a.work.now) _ c.fold_refusal-number.ensures
-    c.if-refuses.true
+    (omega (arith, c.if-refuses.true))
 
 pub fold_into-done-requires : goal.fold_into-done-requires
 fold_into-done-requires c =
     let a = c.args in
-    let d = fold_ready a.w a.h a.element a.n a.image.now a.out.now a.work.now c.fold_refusal-number.ensures c.if-refuses.false in
+    let d = fold_ready a.w a.h a.element a.n a.image.now a.out.now a.work.now c.fold_refusal-number.ensures (omega (arith, c.if-refuses.false)) in
     (d.0, d.1, omega arith)
 
 pub returns : goal.returns
@@ -30,4 +30,4 @@ returns c =
     let a = c.args in
     writes_done (fold_rows a.w a.h a.element a.n a.image.now a.out.now a.work.now) a.w a.h
     (opening (times (offsets a.element) a.n) (image_set a.w a.h a.image.now)) a.out.now a.work.now _ _ _ _ c.fold_refusal-number.ensures
-    c.if-refuses.false c.fold_into-done.ensures.image
+    (omega (arith, c.if-refuses.false)) c.fold_into-done.ensures.image
