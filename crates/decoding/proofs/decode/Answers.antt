@@ -37,4 +37,4 @@ returns c =
     decode-rows a.w a.h a.element _ _ a.image.now a.work.now c.not_plane-wrong.ensures c.short_planes-short.ensures c.shape_rows-refusal.ensures in
     c.decode_into.ensures
     ∙ sym
-    (unless_in (first_refusal (let a = c.args in decode_rows a.w a.h a.element a.image.now a.work.now)) (c.args.image.now ∷ c.args.work.now ∷ []) (let a = c.args in let B = offsets a.element in let n = mark_of a.mark in decoding a.w a.h (code_rows a.w a.h B n a.stream.now) (code_set a.w a.h B n a.stream.now) a.image.now a.work.now) (sym answered ∙ c.if-refuses.false))
+    (unless_in (first_refusal (let a = c.args in decode_rows a.w a.h a.element a.image.now a.work.now)) (c.args.image.now ∷ c.args.work.now ∷ []) (let a = c.args in let B = offsets a.element in let n = mark_of a.mark in decoding a.w a.h (code_rows a.w a.h B n a.stream.now) (code_set a.w a.h B n a.stream.now) a.image.now a.work.now) (sym answered ∙ omega (arith, c.if-refuses.false)))

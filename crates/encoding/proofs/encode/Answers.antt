@@ -31,4 +31,4 @@ returns c =
     let X = image_set a.w a.h a.image.now in
     c.encode_into.ensures
     ∙ sym
-    (unless_in (first_refusal (encode_rows a.w a.h a.element a.image.now a.work.now)) (a.out.now ∷ a.work.now ∷ []) (coding a.w a.h (code_of a.w a.h (offsets a.element) X) a.out.now a.work.now) (sym c.image_refusal-refusal.ensures ∙ c.if-refuses.false))
+    (unless_in (first_refusal (encode_rows a.w a.h a.element a.image.now a.work.now)) (a.out.now ∷ a.work.now ∷ []) (coding a.w a.h (code_of a.w a.h (offsets a.element) X) a.out.now a.work.now) (sym c.image_refusal-refusal.ensures ∙ omega (arith, c.if-refuses.false)))

@@ -13,7 +13,7 @@ pub returns-then-empty : goal.returns-then-empty
 returns-then-empty c =
     let a = c.args in
     strip-idle a.dilating a.r a.n a.column a.dst.now (λ y x k. strip_bit a.inverse a.buf.now a.r (x + (turned a.dilating a.j + 6)) (y + k))
-    c.if-empty.true
+    (omega (arith, c.if-empty.true))
 
 pub overflow_cast-reflect : goal.overflow_cast-reflect
 overflow_cast-reflect c = omega (arith, c.reflect.ensures, turned_lt c.args.dilating c.args.j c.requires.0)

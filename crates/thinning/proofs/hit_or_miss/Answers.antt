@@ -32,4 +32,4 @@ returns c =
     let a = c.args in
     let e = c.hit_refusal-refusal.ensures in
     let d = hit_ready a.w a.h a.fg a.bg a.image.now a.out.now e (omega (arith, c.if-refuses.false)) in
-    hit-outcome a.w a.h (a.fg, a.bg) a.image.now a.out.now _ _ d.mask (sym e ∙ c.if-refuses.false) c.hit_plane.ensures c.count_ones-area.ensures
+    hit-outcome a.w a.h (a.fg, a.bg) a.image.now a.out.now _ _ d.mask (sym e ∙ omega (arith, c.if-refuses.false)) c.hit_plane.ensures c.count_ones-area.ensures

@@ -38,5 +38,5 @@ returns c =
     let a = c.args in
     let e = c.thin_refusal-row.ensures in
     let d = thin_ready a.w a.h a.image.now a.work.now e (omega (arith, c.if-refuses.false)) in
-    thin_done a.w a.h _ a.image.now a.work.now _ _ _ _ _ _ (sym e ∙ (omega (arith, c.if-refuses.false))) (sheet-bytes (frame-sheet d.frame))
+    thin_done a.w a.h _ a.image.now a.work.now _ _ _ _ _ _ (sym e ∙ omega (arith, c.if-refuses.false)) (sheet-bytes (frame-sheet d.frame))
     c.thin_passes-tally.ensures c.clear_work.ensures

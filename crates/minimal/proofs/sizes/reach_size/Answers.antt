@@ -1,5 +1,6 @@
 -- `minimal::sizes::reach_size` meets its contract.
 -- The answer of the dilation says that nothing fell off: the next size stays on the frame. So what it leaves is not clipped.
+use mathlib.Core.Logic.{◌≢◌}
 use mathlib.Core.Path.{◌∙◌, ◌≡◌, refl, sym}
 use Prim.Native.Nat.{◌-◌}
 use native.Mathlib.Omega.{arith}
@@ -19,7 +20,7 @@ pub returns : goal.returns
 returns c =
     let d = c.dilate_step.ensures in
     let a = c.args in
-    let h = c.if-first.false in
+    let h : a.n ≢ 0 = omega (arith, c.if-first.false) in
     let none = d.clipped ∙ reach-falls a.n h c.requires.3 c.requires.4 in
     record {
       shape = reach_shape a.n h c.requires.3 c.requires.4 c.requires.0 (sym d.clipped ∙ none) d.plane;
