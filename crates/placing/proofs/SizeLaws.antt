@@ -1,7 +1,6 @@
 -- One size, read over the whole plane.
 use mathlib.Core.Bool.{Bool, ◌||◌, false, or_comm}
 use mathlib.Core.List.{List}
-use mathlib.Core.Option.{none}
 use mathlib.Core.Path.{◌∙◌, ◌≡◌, ap, ap₂, subst, sym}
 use Prim.Native.Nat.{◌%◌, ◌*◌, ◌+◌, ◌/◌, ◌<◌, ◌≤◌, ℕ}
 use native.Mathlib.Decide.{dec_lt}

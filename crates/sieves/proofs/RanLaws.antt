@@ -12,7 +12,6 @@ use Rattle.claims.proofs.Claims.{refuses_exactly, sieve_list}
 use Rattle.morphology.specs.Answers.{Answer, Outcome, outcome, output, refused}
 use Rattle.morphology.specs.Operations.{decomposed, reconstructed}
 use Rattle.morphology.specs.Refusals.{unless}
-use Rattle.morphology.specs.Skeleton.{reconstruction}
 use Rattle.morphology.proofs.RefusalLaws.{unless_in, unless-refused}
 use Rattle.sieves.specs.Ran.{ListRunsAsClaimed, Ran, RunningSieveList, RunsAsClaimed, handed, handed_all, run, run_all, sieve_outcome, work_of}
 

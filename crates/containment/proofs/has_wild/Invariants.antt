@@ -5,7 +5,6 @@ use mathlib.Core.Path.{◌≡◌}
 use Prim.Native.Nat.{◌-◌, ◌≤◌}
 use Rattle.morphology.specs.Element.{offsets}
 use Rattle.morphology.specs.Lists.{some_of, up_to}
-use Rattle.morphology.proofs.ElementLaws.{element}
 use Rattle.containment.proofs.WildLaws.{Limited, row_wild}
 use Rattle.containment.proofs.has_wild.Given as goal
 

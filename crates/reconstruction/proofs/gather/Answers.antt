@@ -1,4 +1,4 @@
-use mathlib.Core.Bool.{◌||◌, false}
+use mathlib.Core.Bool.{◌||◌}
 use mathlib.Core.Path.{◌∙◌, ap, ap₂, refl, sym}
 use Prim.Native.Nat.{◌*◌, ◌+◌, ℕ}
 use borrow.Author.Rules.{rules}

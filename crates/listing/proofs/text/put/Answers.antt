@@ -1,6 +1,5 @@
 -- `listing::text::put` meets its contract.
 use Rattle.listing.proofs.AppendLaws.{appended_byte}
-use Rattle.listing.proofs.text.put.Reads as reads
 use Rattle.listing.proofs.text.put.Goals as goal
 
 -- src/text.rt:13:1

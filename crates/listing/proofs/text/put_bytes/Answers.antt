@@ -1,7 +1,6 @@
 use native.Mathlib.Omega.{arith}
 use lib.Seq.{take_all}
 use Rattle.listing.proofs.AppendLaws.{appended_as, appended-start, appended_turn}
-use Rattle.listing.proofs.text.put_bytes.Reads as reads
 use Rattle.listing.proofs.text.put_bytes.Goals as goal
 
 -- src/text.rt:27:5

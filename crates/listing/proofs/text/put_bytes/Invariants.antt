@@ -2,7 +2,6 @@
 use Prim.Native.Nat.{◌+◌, ◌-◌, ◌≤◌}
 use lib.ListN.{length, take}
 use Rattle.listing.specs.Appended.{Appended}
-use Rattle.listing.proofs.text.put_bytes.Reads as reads
 use Rattle.listing.proofs.text.put_bytes.Given as goal
 
 abbrev pub invariant-loop-i : goal.invariant-loop-i
