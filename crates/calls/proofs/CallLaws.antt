@@ -3,26 +3,16 @@ use mathlib.Core.List.{List, [], ◌++◌, ◌∷◌}
 use mathlib.Core.Path.{◌∙◌, ◌≡◌, ap, refl, sym}
 use Prim.Native.Nat.{◌≤◌, suc, ℕ}
 use native.Mathlib.Omega.{arith}
+use Rattle.std.specs.Prelude.{Err, None, Ok, Option, Result, Some}
 use lib.ListN.{get_or-eq_default}
-use Rattle.dilation.specs.Dilation.{answer_of as dilated_answer, dilated}
-use Rattle.dilation.specs.declared.Dilated.{Dilated}
-use Rattle.dilation.specs.declared.Dilated.TheVariants.{Done as Grown, Refused as NotDilated}
-use Rattle.encoding.specs.Encoded.{answer_of as encoded_answer}
-use Rattle.encoding.specs.declared.Encoded.{Encoded}
-use Rattle.encoding.specs.declared.Encoded.TheVariants.{Blank as NoStream, Refused as NotEncoded, Stream}
-use Rattle.iteration.specs.Written.{answer_of as written_answer}
-use Rattle.iteration.specs.declared.Written.{Written}
-use Rattle.iteration.specs.declared.Written.TheVariants.{Area, Refused as NotWritten}
-use Rattle.minimal.specs.Minimised.{answer_of as minimised_answer}
-use Rattle.minimal.specs.declared.Minimised.{Minimised}
-use Rattle.minimal.specs.declared.Minimised.TheVariants.{Points, Refused as NotMinimised}
+use Rattle.dilation.specs.Dilation.{dilated}
+use Rattle.encoding.specs.Encoded.{written}
+use Rattle.encoding.specs.declared.Stream.{Stream}
 use Rattle.morphology.specs.Answers.{Answer, Outcome, outcome}
-use Rattle.skeleton.specs.Decomposed.{answer_of as decomposed_answer}
-use Rattle.skeleton.specs.declared.Decomposed.{Decomposed}
-use Rattle.skeleton.specs.declared.Decomposed.TheVariants.{Blank, Refused as NotDecomposed, Skeleton}
-use Rattle.thinning.specs.Thinned.{answer_of as thinned_answer}
-use Rattle.thinning.specs.declared.Thinned.{Thinned}
-use Rattle.thinning.specs.declared.Thinned.TheVariants.{Done, Refused as NotThinned}
+use Rattle.refusals.specs.Refusal.{answer_by}
+use Rattle.refusals.specs.declared.Refusal.{Refusal}
+use Rattle.skeleton.specs.Decomposed.{found}
+use Rattle.skeleton.specs.declared.Skeleton.{Skeleton}
 use Rattle.calls.specs.Called.{beside, called, operations}
 use Rattle.calls.specs.Replies.{answer_of, reply_of}
 use Rattle.calls.specs.declared.Reply.{Reply}
@@ -32,31 +22,17 @@ use Rattle.calls.specs.declared.Reply.{Reply}
 abbrev pub Faithful : Answer → Type 0
 Faithful a = answer_of (reply_of a) ≡ a
 
-pub written-kept : (d : Written) → Faithful (written_answer d)
-written-kept (NotWritten n) = refl
-written-kept (Area n) = refl
+pub kept : {A : Type 0} (values : A → Answer) → ((v : A) → Faithful (values v)) → (r : Result A Refusal) → Faithful (answer_by values r)
+kept values f (Ok v) = f v
+kept values f (Err refusal) = refl
 
-pub decomposed-kept : (d : Decomposed) → Faithful (decomposed_answer d)
-decomposed-kept (NotDecomposed n) = refl
-decomposed-kept Blank = refl
-decomposed-kept (Skeleton n s) = refl
+pub found-kept : (s : Option Skeleton) → Faithful (found s)
+found-kept None = refl
+found-kept (Some s) = refl
 
-pub minimised-kept : (d : Minimised) → Faithful (minimised_answer d)
-minimised-kept (NotMinimised n) = refl
-minimised-kept (Points n) = refl
-
-pub thinned-kept : (d : Thinned) → Faithful (thinned_answer d)
-thinned-kept (NotThinned n) = refl
-thinned-kept (Done p r n) = refl
-
-pub encoded-kept : (d : Encoded) → Faithful (encoded_answer d)
-encoded-kept (NotEncoded n) = refl
-encoded-kept NoStream = refl
-encoded-kept (Stream b n) = refl
-
-pub dilated-kept : (d : Dilated) → Faithful (dilated_answer d)
-dilated-kept (NotDilated n) = refl
-dilated-kept (Grown n fell) = refl
+pub written-kept : (s : Option Stream) → Faithful (written s)
+written-kept None = refl
+written-kept (Some s) = refl
 
 -- ---- what a call owes: the outcome, and a reply with 0 where it has no value
 

@@ -3,6 +3,7 @@ ghost use Rattle.std.specs.Prelude.{[], ◌∷◌, ◌≡◌};
 ghost use Rattle.calls.specs.Format.{replied, reply_bytes};
 
 use crate::Reply;
+use refusals::Refusal;
 
 // The bytes of a call before its buffers.
 pub const HEADER: usize = 33;
@@ -33,7 +34,7 @@ pub fn answer(
         ≡ replied header.now x.now y.old z.old c.old counters.old }
 {
     if c.len() != 2 * counters.len() {
-        return reply_bytes(crate::refused(3));
+        return reply_bytes(crate::refused(Refusal::Lengths));
     }
     numbers::read_counters(&c[..], counters);
     let w = numbers::number(header, 1);

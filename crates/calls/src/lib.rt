@@ -8,24 +8,22 @@ ghost use Rattle.morphology.specs.Answers.{answered, outcome, refused as refused
 ghost use Rattle.morphology.specs.Image.{ones_of};
 ghost use Rattle.dilation.specs.Dilation.{answer_of as dilated_answer};
 ghost use Rattle.encoding.specs.Encoded.{answer_of as encoded_answer};
-ghost use Rattle.iteration.specs.Written.{answer_of as written_answer};
-ghost use Rattle.minimal.specs.Minimised.{answer_of as minimised_answer};
+ghost use Rattle.refusals.specs.Refusal.{answer_of as written_answer, number_of};
 ghost use Rattle.skeleton.specs.Decomposed.{answer_of as decomposed_answer};
 ghost use Rattle.thinning.specs.Thinned.{answer_of as thinned_answer};
 ghost use Rattle.calls.specs.Called.{called};
 ghost use Rattle.calls.specs.Replies.{answer_of, reply_of};
 
-use decoding::Mark;
-use dilation::Dilated;
-use encoding::Encoded;
+use encoding::Stream;
 pub use format::{HEADER, answer};
-use minimal::Minimised;
-use skeleton::{Decomposed, Written};
+use iteration::Inked;
+use refusals::Refusal;
+use skeleton::Skeleton;
 use thinning::Thinned;
 
 // An answer: the refusal's number, 0 if there is none, and how many values there are, with 0 for those that are not there.
 #[repr(C)]
-#[derive(Drop)]
+#[derive(Clone, Copy, Debug, PartialEq, Eq)]
 pub struct Reply {
     pub refusal: u8,
     pub count: u8,
@@ -35,11 +33,11 @@ pub struct Reply {
 }
 
 // A refusal.
-fn refused(n: u8) -> Reply
-    ensures { result ≡ reply_of (refused_answer n) }
+fn refused(refusal: Refusal) -> Reply
+    ensures { result ≡ reply_of (refused_answer (number_of refusal)) }
 {
     Reply {
-        refusal: n,
+        refusal: u8::from(refusal),
         count: 0,
         first: 0,
         second: 0,
@@ -73,85 +71,71 @@ fn two(v: u32, u: u32) -> Reply
     }
 }
 
-// The answer of an erosion, an opening, a reconstruction, hit-or-miss or the reader of codes.
-fn of_written(a: Written) -> Reply
-    ensures { result ≡ reply_of (written_answer a) }
-{
-    match a {
-        Written::Refused(n) => refused(n),
-        Written::Area(n) => one(n),
+// The answer of an erosion, an opening, a reconstruction, a minimisation, hit-or-miss or the reader of codes.
+impl From<Result<u32, Refusal>> for Reply {
+    ghost from_gives = { λ a r. r ≡ reply_of (written_answer a) };
+
+    fn from(a: Result<u32, Refusal>) -> Reply {
+        match a {
+            Ok(n) => one(n),
+            Err(refusal) => refused(refusal),
+        }
     }
 }
 
 // The answer of a decomposition.
-fn of_decomposed(a: Decomposed) -> Reply
-    ensures { result ≡ reply_of (decomposed_answer a) }
-{
-    match a {
-        Decomposed::Refused(n) => refused(n),
-        Decomposed::Blank => one(0),
-        Decomposed::Skeleton { points, largest } => two(points, largest),
-    }
-}
+impl From<Result<Option<Skeleton>, Refusal>> for Reply {
+    ghost from_gives = { λ a r. r ≡ reply_of (decomposed_answer a) };
 
-// The answer of a minimisation.
-fn of_minimised(a: Minimised) -> Reply
-    ensures { result ≡ reply_of (minimised_answer a) }
-{
-    match a {
-        Minimised::Refused(n) => refused(n),
-        Minimised::Points(n) => one(n),
+    fn from(a: Result<Option<Skeleton>, Refusal>) -> Reply {
+        match a {
+            Ok(None) => one(0),
+            Ok(Some(found)) => two(found.points, found.largest),
+            Err(refusal) => refused(refusal),
+        }
     }
 }
 
 // The answer of a thinning.
-fn of_thinned(a: Thinned) -> Reply
-    ensures { result ≡ reply_of (thinned_answer a) }
-{
-    match a {
-        Thinned::Refused(n) => refused(n),
-        Thinned::Done {
-            passes,
-            removed,
-            left,
-        } => Reply {
-            refusal: 0,
-            count: 3,
-            first: passes,
-            second: removed,
-            third: left,
-        },
+impl From<Result<Thinned, Refusal>> for Reply {
+    ghost from_gives = { λ a r. r ≡ reply_of (thinned_answer a) };
+
+    fn from(a: Result<Thinned, Refusal>) -> Reply {
+        match a {
+            Ok(done) => Reply {
+                refusal: 0,
+                count: 3,
+                first: done.passes,
+                second: done.removed,
+                third: done.left,
+            },
+            Err(refusal) => refused(refusal),
+        }
     }
 }
 
 // The answer of the writer of codes.
-fn of_encoded(a: Encoded) -> Reply
-    ensures { result ≡ reply_of (encoded_answer a) }
-{
-    match a {
-        Encoded::Refused(n) => refused(n),
-        Encoded::Blank => one(0),
-        Encoded::Stream { bytes, largest } => two(bytes, largest),
+impl From<Result<Option<Stream>, Refusal>> for Reply {
+    ghost from_gives = { λ a r. r ≡ reply_of (encoded_answer a) };
+
+    fn from(a: Result<Option<Stream>, Refusal>) -> Reply {
+        match a {
+            Ok(None) => one(0),
+            Ok(Some(stream)) => two(stream.bytes, stream.largest),
+            Err(refusal) => refused(refusal),
+        }
     }
 }
 
-// 1 for yes, 0 for no.
-fn one_if(yes: bool) -> u32
-    ensures { result ≡ cond yes 1 0 }
-{
-    if yes {
-        return 1;
-    }
-    0
-}
+// The answer of a dilation: its area, and 1 where a point of it fell off.
+impl From<Result<Inked, Refusal>> for Reply {
+    ghost from_gives = { λ a r. r ≡ reply_of (dilated_answer a) };
 
-// The answer of a dilation.
-fn of_dilated(a: Dilated) -> Reply
-    ensures { result ≡ reply_of (dilated_answer a) }
-{
-    match a {
-        Dilated::Refused(n) => refused(n),
-        Dilated::Done { area, fell } => two(area, one_if(fell)),
+    fn from(a: Result<Inked, Refusal>) -> Reply {
+        match a {
+            Ok(inked) => two(inked.area, u32::from(inked.clipped)),
+            Err(refusal) => refused(refusal),
+        }
     }
 }
 
@@ -172,17 +156,17 @@ pub fn call(
     ensures zeros { result ≡ reply_of (answer_of result) }
 {
     match op {
-        0 => of_written(skeleton::erode(w, h, a, b, x, y, z)),
-        1 => of_written(skeleton::open(w, h, a, b, x, y, z)),
-        2 => of_decomposed(skeleton::decompose(w, h, a, x, y, z)),
-        3 => of_written(skeleton::reconstruct(w, h, a, b, x, y, z)),
-        4 => of_minimised(minimal::minimise(w, h, a, y, z, c)),
-        5 => of_written(thinning::hit_or_miss(w, h, a, b, x, y)),
-        6 => of_thinned(thinning::thin(w, h, y, z)),
-        7 => of_encoded(encoding::encode(w, h, a, x, y, z)),
-        8 => of_written(decoding::decode(w, h, a, Mark::Largest(b), x, y, z)),
-        9 => of_written(decoding::decode(w, h, a, Mark::Blank, x, y, z)),
-        _ => of_dilated(dilation::dilate(w, h, a, x, y, z)),
+        0 => skeleton::erode(w, h, a, b, x, y, z).into(),
+        1 => skeleton::open(w, h, a, b, x, y, z).into(),
+        2 => skeleton::decompose(w, h, a, x, y, z).into(),
+        3 => skeleton::reconstruct(w, h, a, b, x, y, z).into(),
+        4 => minimal::minimise(w, h, a, y, z, c).into(),
+        5 => thinning::hit_or_miss(w, h, a, b, x, y).into(),
+        6 => thinning::thin(w, h, y, z).into(),
+        7 => encoding::encode(w, h, a, x, y, z).into(),
+        8 => decoding::decode(w, h, a, Some(b), x, y, z).into(),
+        9 => decoding::decode(w, h, a, None, x, y, z).into(),
+        _ => dilation::dilate(w, h, a, x, y, z).into(),
     }
 }
 

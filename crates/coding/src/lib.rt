@@ -18,7 +18,7 @@ pub fn put(stream: &mut [u8], j: usize, s: u8)
     ensures { symbols_of stream.new ≡ set (symbols_of stream.old) j s }
 {
     let i = j / 4;
-    stream[i] = stream[i] + (s << shift(j));
+    stream[i] += s << shift(j);
 }
 
 // Writes symbols j and j + 1 of a stream that has commas there, by one store where both lie in one byte.
@@ -29,7 +29,7 @@ fn put_two(stream: &mut [u8], j: usize, s: u8, t: u8)
 {
     if j % 4 < 3 {
         let i = j / 4;
-        stream[i] = stream[i] + ((4 * s + t) << (shift(j) - 2));
+        stream[i] += (4 * s + t) << (shift(j) - 2);
         return;
     }
     put(stream, j, s);
@@ -43,8 +43,8 @@ fn digits_long(n: u32) -> u32
     let mut left = n;
     let mut d: u32 = 1;
     while left >= 3 {
-        left = left / 3;
-        d = d + 1;
+        left /= 3;
+        d += 1;
     }
     d
 }
@@ -71,13 +71,10 @@ fn put_long(stream: &mut [u8], j: usize, n: u32) -> usize
 {
     let d = digits_long(n) as usize;
     let mut left = n;
-    let mut k = j + d - 1;
-    while left >= 3 {
+    for k in (j..j + d).rev() {
         put(stream, k, (left % 3 + 1) as u8);
-        left = left / 3;
-        k = k - 1;
+        left /= 3;
     }
-    put(stream, k, (left + 1) as u8);
     j + d + 1
 }
 

@@ -1,18 +1,18 @@
 -- Row 5 of the table of refusals: limits of the labels of a column and of a row say which labels leave the frame.
-use mathlib.Core.Bool.{Bool, ◌&&◌, ◌||◌, false, not, true}
+use mathlib.Core.Bool.{Bool, ◌||◌, false, not, true}
 use mathlib.Core.List.{List, Memᴰ}
 use mathlib.Core.Path.{◌∙◌, ◌≡◌, ap, ap₂, refl, subst, sym}
-use Prim.Native.Nat.{◌*◌, ◌+◌, ◌-◌, ◌/◌, ◌<◌, ◌≤◌, suc, zero, ℕ}
+use Prim.Native.Nat.{◌*◌, ◌+◌, ◌-◌, ◌<◌, ◌≤◌, min, suc, zero, ℕ}
 use native.Mathlib.Decide.{dec_le}
-use native.Mathlib.Nat.{le_refl, min-le_left, mul_comm, mul-one, mul-zero, zero-add}
+use native.Mathlib.Nat.{le_refl, mul_comm, zero-add}
 use native.Mathlib.Numerals.{add-one}
 use native.Mathlib.Omega.{arith}
-use borrow.Author.Count.{below_more}
+use Rattle.std.proofs.lemmas.Bool.Decides.{nat_tests}
 use borrow.Author.Tests.{le-leb, le-ltb, lt-leb, lt-ltb}
-use lib.Dec.{T, leb, leb→le, le→leb, ltb, ltb→lt, lt→ltb}
+use lib.Dec.{T, leb, ltb}
 use lib.IntN.{pos}
-use lib.ListN.{drop, get_or, length, length-drop, length-take, set, take}
-use lib.Seq.{get_or-drop, get_or-set_other, get_or-set_same, get_or-take, length-take-le}
+use lib.ListN.{drop, get_or, length, length-drop, take}
+use lib.Seq.{get_or-drop, get_or-take, length-take-le}
 use Rattle.morphology.specs.Extent.{boxed, extent}
 use Rattle.morphology.specs.Labels.{label_at, max_label, places}
 use Rattle.morphology.specs.Lists.{some_of, up_to}
@@ -24,53 +24,10 @@ use Rattle.morphology.proofs.ElementLaws.{Element}
 use Rattle.morphology.proofs.ExtentLaws.{box_exact}
 use Rattle.morphology.proofs.LabelLaws.{in-places, label_at-at, of_places}
 use Rattle.morphology.proofs.SkeletonLaws.{any_agree}
-use Rattle.morphology.proofs.TestLaws.{T_ext, and_in, and_l, and_r, any_in, any_out, not-and}
-use Rattle.elements.specs.Measures.{measure}
+use Rattle.morphology.proofs.TestLaws.{T_ext, any_in, any_out, not-and}
+use Rattle.elements.specs.Measures.{Reached, measure}
 use Rattle.raster.proofs.RowLaws.{row_in}
-use Rattle.containment.specs.Wild.{Limit, Limits, Room, over, room_at, too_large}
-
--- ---- the room at a coordinate
-
-leb_agree : (a b c d : ℕ) → (a ≤ b → c ≤ d) → (c ≤ d → a ≤ b) → leb a b ≡ leb c d
-leb_agree a b c d f g = T_ext (λ t. le→leb c d (f (leb→le a b t))) (λ t. le→leb a b (g (leb→le c d t)))
-
--- no step, steps of one, of two
-pub steps-none : (space step : ℕ) → step ≡ 0 → Room (λ n. leb (n * step) space) (max_label - 1)
-steps-none space step e n h =
-    let q : n * step ≡ 0 = ap (λ (k : ℕ). n * k) e ∙ mul-zero n in
-    leb_agree n (max_label - 1) (n * step) space (λ l. omega arith) (λ l. omega arith)
-
-pub steps_one : (space step : ℕ) → step ≡ 1 → Room (λ n. leb (n * step) space) space
-steps_one space step e n h =
-    let q : n * step ≡ n = ap (λ (k : ℕ). n * k) e ∙ mul-one n in
-    leb_agree n space (n * step) space (λ l. omega arith) (λ l. omega arith)
-
-pub steps_two : (space step : ℕ) → step ≡ 2 → Room (λ n. leb (n * step) space) (space / 2)
-steps_two space step e n h =
-    let q : n * step ≡ n * 2 = ap (λ (k : ℕ). n * k) e in
-    leb_agree n (space / 2) (n * step) space (λ l. omega arith) (λ l. omega arith)
-
-pub two_of : (n : ℕ) → n ≤ 2 → (n ≡ 0 → ⊥) → (n ≡ 1 → ⊥) → n ≡ 2
-two_of zero h f g = absurd (f refl)
-two_of (suc zero) h f g = absurd (g refl)
-two_of (suc (suc n)) h f g = omega arith
-
--- the room before and after x
-both-sides : (W lo hi x a b : ℕ) → x < W → Room (λ n. leb (n * lo) x) a → Room (λ n. leb (n * hi) (W - 1 - x)) b → (n : ℕ) → n < max_label
-    → (leb n a && leb n b) ≡ room_at W lo hi x n
-both-sides W lo hi x a b h f g n l =
-    ap₂ ◌&&◌ (f n l) (g n l ∙ T_ext (λ t. let k = leb→le (n * hi) (W - 1 - x) t in lt→ltb (x + n * hi) W (omega arith))
-    (λ t. let k = ltb→lt (x + n * hi) W t in le→leb (n * hi) (W - 1 - x) (omega arith)))
-
-pub room_back : (W lo hi x a b : ℕ) → x < W → a ≤ b → Room (λ n. leb (n * lo) x) a → Room (λ n. leb (n * hi) (W - 1 - x)) b → Room (room_at W lo hi x) a
-room_back W lo hi x a b h k f g n l =
-    T_ext (λ t. and_in (leb n a) (leb n b) t (let q = leb→le n a t in le→leb n b (omega arith))) (and_l (leb n a) (leb n b))
-    ∙ both-sides W lo hi x a b h f g n l
-
-pub room_forward : (W lo hi x a b : ℕ) → x < W → b ≤ a → Room (λ n. leb (n * lo) x) a → Room (λ n. leb (n * hi) (W - 1 - x)) b → Room (room_at W lo hi x) b
-room_forward W lo hi x a b h k f g n l =
-    T_ext (λ t. and_in (leb n a) (leb n b) (let q = leb→le n b t in le→leb n a (omega arith)) t) (and_r (leb n a) (leb n b))
-    ∙ both-sides W lo hi x a b h f g n l
+use Rattle.containment.specs.Wild.{Limit, Limits, over, room_at, too_large}
 
 -- ---- the limit
 
@@ -90,28 +47,10 @@ unfolding too_large
 limit_of l f g e m zero h = m 0 h
 limit_of l f g e m (suc n) h = m (suc n) h ∙ ap not (e n (omega arith))
 
--- one column more
-pub limits_more : (P : ℕ → ℕ → Type 0) (limits : List ℕ) (x v : ℕ) → x < length limits → ((j : ℕ) → j < x → P j (get_or limits j 0)) → P x v
-    → (j : ℕ) → j < x + 1 → P j (get_or (set limits x v) j 0)
-limits_more P limits x v h f p =
-    below_more (λ (j : ℕ). P j (get_or (set limits x v) j 0)) x (λ j l. subst (P j) (sym (get_or-set_other limits x j v 0 (λ q. omega arith))) (f j l))
-    (subst (P x) (sym (get_or-set_same limits x v 0 h)) p)
-
 -- ---- a row
 
-pub over_first : (a b : ℕ) → a < b → (v : ℕ) → ltb a v ≡ over v a b
-over_first a b h v = go (dec_le v a)
-  where
-    go : Dec (v ≤ a) → ltb a v ≡ over v a b
-    go (yes l) = le-ltb a v l ∙ sym (ap₂ ◌||◌ (le-ltb a v l) (le-ltb b v (omega arith)))
-    go (no l) = lt-ltb a v (omega arith) ∙ sym (ap (λ (t : Bool). t || ltb b v) (lt-ltb a v (omega arith)))
-
-pub over-second : (a b : ℕ) → b ≤ a → (v : ℕ) → ltb b v ≡ over v a b
-over-second a b h v = go (dec_le v a)
-  where
-    go : Dec (v ≤ a) → ltb b v ≡ over v a b
-    go (yes l) = sym (ap (λ (t : Bool). t || ltb b v) (le-ltb a v l))
-    go (no l) = lt-ltb b v (omega arith) ∙ sym (ap (λ (t : Bool). t || ltb b v) (lt-ltb a v (omega arith)))
+pub over-min : (v a b : ℕ) → ltb (min a b) v ≡ over v a b
+over-min v a b = grind (arith, nat_tests)
 
 pub any_more : (p : ℕ → Bool) (n : ℕ) → some_of p (up_to (n + 1)) ≡ (some_of p (up_to n) || p n)
 any_more p n = ap (λ (k : ℕ). some_of p (up_to k)) (add-one n) ∙ any-suc p (λ k. k) 0 n ∙ ap (λ (k : ℕ). some_of p (up_to n) || p k) (zero-add n)
@@ -167,10 +106,7 @@ pub record Limited (W H : ℕ) (B : List Point) (m : List ℕ) (left right up do
   pub shape : Element B
   pub size : length m ≡ W * H
   pub labels : (i : ℕ) → get_or m i 0 ≤ max_label
-  pub leftward : left ≡ extent (measure true false) B
-  pub rightward : right ≡ extent (measure true true) B
-  pub upward : up ≡ extent (measure false false) B
-  pub downward : down ≡ extent (measure false true) B
+  pub reach : Reached left right up down B
   pub columns : Limits W left right limits
   pub room : W ≤ length limits
 
@@ -180,14 +116,6 @@ row_of W m y = take (y * W + W - y * W) (drop (y * W) m)
 
 abbrev pub row_over : List ℕ → List ℕ → ℕ → Bool
 row_over row limits l = some_of (λ x. over (get_or row x 0) (get_or limits x 0) l) (up_to (length row))
-
--- a part of W labels has a limit for each
-pub part_limited : {W H : ℕ} {B : List Point} {m : List ℕ} {left right up down : ℕ} {limits : List ℕ} → Limited W H B m left right up down limits
-    → (a : ℕ)
-    → length (take (a + W - a) (drop a m)) ≤ length limits
-part_limited {W} {m = m} {limits = limits} r a =
-    let n : ℕ = a + W - a in
-    omega (arith, length-take n (drop a m), min-le_left n (length (drop a m)), r.room)
 
 module _ {W H : ℕ} {B : List Point} {m : List ℕ} {left right up down : ℕ} {limits : List ℕ} (r : Limited W H B m left right up down limits) (y : ℕ)
     (h : y < H) where
@@ -206,9 +134,9 @@ module _ {W H : ℕ} {B : List Point} {m : List ℕ} {left right up down : ℕ} 
         let v : ℕ = get_or m (y * W + x) 0 in
         ap (λ (i : ℕ). over i (get_or limits x 0) l) (get_or-take (y * W + W - y * W) (drop (y * W) m) x 0 (omega arith) ∙ get_or-drop (y * W) m x 0)
         ∙ ap₂ ◌||◌ (r.columns x hx v (r.labels (y * W + x))) (row v (r.labels (y * W + x)))
-        ∙ ap₂ (λ (a b : ℕ). too_large (room_at W a b x) v || too_large (room_at H up down y) v) r.leftward r.rightward
+        ∙ ap₂ (λ (a b : ℕ). too_large (room_at W a b x) v || too_large (room_at H up down y) v) r.reach.leftward r.reach.rightward
         ∙ ap₂ (λ (a b : ℕ). too_large (room_at W (extent (measure true false) B) (extent (measure true true) B) x) v || too_large (room_at H a b y) v)
-        r.upward r.downward
+        r.reach.upward r.reach.downward
         ∙ sym (leaves-sides W H B r.shape.centred x y v)
 
     row_exact : row_over (row_of W m y) limits l ≡ row_wild W H B m y

@@ -1,12 +1,14 @@
 // Row 5 of the table of refusals: a point of a map that leaves the frame.
 #![tactic(auto)]
 
-ghost use Rattle.std.specs.Prelude.{◌≡◌, ℕ, ◌*◌, ◌<◌, ◌≤◌, leb, ltb, T, length, get_or};
+ghost use Rattle.std.specs.Prelude.{◌≡◌, ◌*◌, ◌<◌, ◌≤◌, leb, T, length, get_or};
 ghost use Rattle.morphology.specs.Element.{is_element, offsets};
 ghost use Rattle.morphology.specs.Lists.{some_of, up_to};
 ghost use Rattle.morphology.specs.Refusals.{is_wild};
 ghost use Rattle.raster.specs.Limits.{max_frame};
 ghost use Rattle.containment.specs.Wild.{room_at, Room, Limit, Limits, over};
+
+use elements::Reach;
 
 // The largest label of the labels' type, and the size of a point that has it.
 const MAX_LABEL: u8 = 255;
@@ -18,13 +20,11 @@ fn steps(space: usize, step: usize) -> usize
     requires { step ≤ 2 }
     ensures { Room (λ n. leb (n * step) space) result }
 {
-    if step == 0 {
-        return MAX_SIZE;
+    match step {
+        0 => MAX_SIZE,
+        1 => space,
+        _ => space / 2,
     }
-    if step == 1 {
-        return space;
-    }
-    space / 2
 }
 
 // The largest size that has room at x on a side, where the element goes lo back and hi forward.
@@ -34,20 +34,14 @@ fn room(side: usize, lo: usize, hi: usize, x: usize) -> usize
 {
     let back = steps(x, lo);
     let forward = steps(side - 1 - x, hi);
-    if back < forward {
-        return back;
-    }
-    forward
+    back.min(forward)
 }
 
 // The largest label that may stand where sizes up to room fit: n + 1 is that of size n.
 fn limit(room: usize) -> u8
     ensures { Limit (λ n. leb n room) result }
 {
-    if room >= MAX_SIZE {
-        return MAX_LABEL;
-    }
-    (room + 1) as u8
+    room.min(MAX_SIZE) as u8 + 1
 }
 
 // The largest label that may stand at x on a side.
@@ -63,20 +57,9 @@ fn column_limits(w: usize, lo: usize, hi: usize, limits: &mut [u8])
     requires { (lo ≤ 2) × (hi ≤ 2) × (w ≤ length limits.old) }
     ensures { Limits w lo hi limits.new }
 {
-    let mut x: usize = 0;
-    while x < w {
+    for x in 0..w {
         limits[x] = limit_at(w, lo, hi, x);
-        x = x + 1;
     }
-}
-
-fn lesser(a: u8, b: u8) -> u8
-    ensures { (v : ℕ) → ltb result v ≡ over v a b }
-{
-    if a < b {
-        return a;
-    }
-    b
 }
 
 // Whether a label is above the limit of its column, or that of its row.
@@ -85,10 +68,8 @@ fn row_is_wild(row: &[u8], limits: &[u8], limit: u8) -> bool
     ensures { result ≡ some_of (λ x. over (get_or row.now x 0) (get_or limits.now x 0) limit) (up_to (length row.now)) }
 {
     let mut wild = false;
-    let mut x: usize = 0;
-    while x < row.len() {
-        wild = wild | (lesser(limits[x], limit) < row[x]);
-        x = x + 1;
+    for (x, label) in row.iter().enumerate() {
+        wild |= limits[x].min(limit) < *label;
     }
     wild
 }
@@ -98,19 +79,19 @@ fn has_wild(w: usize, h: usize, element: u32, labels: &[u8]) -> bool
     requires { (w ≤ max_frame) × (length labels.now ≡ w * h) × T (is_element element) }
     ensures { result ≡ is_wild w h (offsets element) labels.now }
 {
-    let left = elements::extent(element, true, false);
-    let right = elements::extent(element, true, true);
-    let up = elements::extent(element, false, false);
-    let down = elements::extent(element, false, true);
+    let Reach {
+        left,
+        right,
+        up,
+        down,
+    } = Reach::of(element);
     let mut limits = [0u8; raster::MAX_FRAME];
     column_limits(w, left, right, &mut limits);
-    let mut y: usize = 0;
-    while y < h {
+    for y in 0..h {
         let at = y * w;
         if row_is_wild(&labels[at..at + w], &limits, limit_at(h, up, down, y)) {
             return true;
         }
-        y = y + 1;
     }
     false
 }

@@ -35,6 +35,11 @@ pub record PairFound (w h r p e from to : ℕ) (work : List ℕ) : Type 0 where
   pub first : FirstRow r 0 h (take (2 * p - p) (drop p work)) from
   pub end : EndRow r from h (take (2 * p - p) (drop p work)) to
 
+pub pair_found : {w h r p e from to : ℕ} {work : List ℕ} → CoverPair w h r p e work → ((i : ℕ) → get_or work i 0 < 256)
+    → FirstRow r 0 h (take (2 * p - p) (drop p work)) from → EndRow r from h (take (2 * p - p) (drop p work)) to
+    → PairFound w h r p e from to work
+pair_found s b f t = record { start = s; bytes = b; first = f; end = t }
+
 module _ {w h r p e from to : ℕ} {work : List ℕ} (c : PairFound w h r p e from to work) where
   abbrev B : List Point
   B = offsets e

@@ -24,7 +24,7 @@ use Rattle.raster.specs.Rows.{overwrite}
 use Rattle.raster.proofs.PackLaws.{frame-bytes}
 use Rattle.raster.proofs.PartLaws.{PartIs, overwrite_is, overwrite-rest, part-drop, part-overwrite, part-take}
 use Rattle.raster.proofs.RowLaws.{rows_in}
-use Rattle.margins.proofs.EdgeLaws.{Extents}
+use Rattle.elements.specs.Measures.{Reached}
 use Rattle.iteration.proofs.BandLaws.{banded-rows, banded-start}
 use Rattle.covers.specs.Grown.{CoverGrown, CoverStart}
 use Rattle.covers.proofs.LentLaws.{lent-clean, lent-frame, lent-image, lent_outside, lent_written, taken-plane}
@@ -42,6 +42,16 @@ pub record CoverLent (w h r p e from to top rest : ℕ) (work : List ℕ) : Type
   pub found : CoverFound w h r p e from to work
   pub above : top ≤ from
   pub below : to + rest ≤ h
+
+pub cover_found : {w h r p e from to : ℕ} {work : List ℕ} → CoverStart w h r p e work → ((i : ℕ) → get_or work i 0 < 256) → FirstRow r 0 h (take p work) from
+    → EndRow r from h (take p work) to
+    → CoverFound w h r p e from to work
+cover_found s b f t = record { start = s; bytes = b; first = f; end = t }
+
+-- the rows that a dilation reaches
+pub lent_rows : {w h r p e from to top rest : ℕ} {work : List ℕ} (up down : ℕ) → CoverFound w h r p e from to work → top ≡ from - up → rest ≡ h - to - down
+    → CoverLent w h r p e from to top rest work
+lent_rows up down c t r = record { found = c; above = omega arith; below = omega (arith, c.end.to) }
 
 module _ {w h r p e from to : ℕ} {work : List ℕ} (c : CoverFound w h r p e from to work) where
   plane : p ≡ h * r
@@ -165,7 +175,7 @@ module _ {w h r p e from to top rest : ℕ} {work : List ℕ} (d : CoverLent w h
           (part-overwrite (top * r + p) (n * r) work second-rows size (omega (arith, rows-bytes, c.start.room)))
 
       -- these are the rows that the dilation can reach
-      module _ {left right up down : ℕ} (x : Extents (offsets e) left right up down) (above : top ≡ from - up) (below : rest ≡ h - to - down) where
+      module _ {left right up down : ℕ} (x : Reached left right up down (offsets e)) (above : top ≡ from - up) (below : rest ≡ h - to - down) where
         reach : Reach w h B left right up down from to top n X
         reach = record {
           centred = (element e c.start.element).centred;

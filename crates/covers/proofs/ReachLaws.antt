@@ -16,7 +16,8 @@ use Rattle.morphology.proofs.FallsLaws.{falls-clip, falls_on}
 use Rattle.morphology.proofs.FrameLaws.{OnFrame}
 use Rattle.morphology.proofs.PointLaws.{assoc, comm, inv, unit}
 use Rattle.morphology.proofs.TestLaws.{T_ext}
-use Rattle.margins.proofs.EdgeLaws.{Extents, HasRoom, falls-near, near-falls}
+use Rattle.elements.specs.Measures.{Reached}
+use Rattle.margins.proofs.EdgeLaws.{HasRoom, falls-near, near-falls}
 
 -- a set in some rows lies in more of them
 pub rows-within : (a m b n : ℕ) (X : Point → Bool) → b ≤ a → a + m ≤ b + n → InRows a m X → InRows b n X
@@ -41,7 +42,7 @@ moved-rows W a n X on z t =
 -- X lies in the rows from `from` up to `to` of W by h; the n rows from top on are these, up more above and down more below, as far as the frame has them
 pub record Reach (W h : ℕ) (B : List Point) (left right up down from to top n : ℕ) (X : Point → Bool) : Type 0 where
   pub centred : Memᴰ origin B
-  pub sides : Extents B left right up down
+  pub sides : Reached left right up down B
   pub on : OnFrame W h X
   pub rows : InRows from (to - from) X
   pub order : from ≤ to

@@ -1,6 +1,6 @@
 -- A cover grown by one size, and what it is eroded to. Definitions only; proofs/ has the laws.
 use Rattle.std.specs.Prelude.{Bool, false, List, ◌↔◌, ◌≡◌, ◌*◌, ◌≤◌, ℕ, T, drop, length, take}
-use Rattle.iteration.specs.Steps.{Sheet}
+use Rattle.raster.specs.Frames.{Sheet}
 use Rattle.morphology.specs.Element.{is_element}
 use Rattle.morphology.specs.Falls.{falls_off}
 use Rattle.morphology.specs.Image.{image_set, is_clean, pack}

@@ -25,7 +25,8 @@ use Rattle.reading.specs.Decoding.{decode_rows, decoding}
 use Rattle.reading.specs.Maps.{code_rows, code_set}
 use Rattle.reading.specs.Splits.{is_padding}
 use Rattle.refusals.proofs.SideLaws.{shaped, sides-frame}
-use Rattle.decoding.specs.declared.Joined.TheVariants.{To}
+use Rattle.std.specs.Prelude.{Some}
+use Rattle.decoding.specs.declared.Joined.{Joined}
 use Rattle.decoding.specs.Reads.{CodeRead, KeptFrom, SizesEnd}
 use Rattle.decoding.proofs.HeldLaws.{kept-cleared, kept_more}
 
@@ -43,19 +44,19 @@ pub code_as : {W H p q : ℕ} {B : List Point} {m n : Option ℕ} {bytes old new
 code_as {W} {H} {p} {q} {B} {m} {n} {bytes} {old} {new} {r} e g d =
     subst (λ (q : ℕ). CodeRead W H q B n bytes old new r) e (subst (λ (n : Option ℕ). CodeRead W H p B n bytes old new r) (sym g) d)
 
-module _ (W H p : ℕ) (B : List Point) (N : ℕ) (bytes old new : List ℕ) (at : ℕ) (c : Bool) (t : SizesEnd W H p B N bytes old new (To at c)) (b : Bool)
-    (e : b ≡ is_padding (drop at (symbols_of bytes))) where
+module _ (W H p : ℕ) (B : List Point) (N : ℕ) (bytes old new : List ℕ) (j : Joined) (t : SizesEnd W H p B N bytes old new (Some j)) (b : Bool)
+    (e : b ≡ is_padding (drop j.at (symbols_of bytes))) where
   -- what follows its sizes is no padding
   pub code_long : not b ≡ true → CodeRead W H p B (some N) bytes old new 10
   code_long q =
       code-refused W H B (some N) bytes 10 (omega arith) t.0
-      (t.1 ∙ first-hit 10 (not (is_padding (drop at (symbols_of bytes)))) ((11, not c) ∷ []) (ap not (sym e) ∙ q)) (λ z. omega arith)
+      (t.1 ∙ first-hit 10 (not (is_padding (drop j.at (symbols_of bytes)))) ((11, not j.chained) ∷ []) (ap not (sym e) ∙ q)) (λ z. omega arith)
 
   -- it is: whether the map is a skeleton is left
-  pub code-end : (r : ℕ) → not b ≡ false → r ≡ first_refusal ((11, not c) ∷ []) → CodeRead W H p B (some N) bytes old new r
+  pub code-end : (r : ℕ) → not b ≡ false → r ≡ first_refusal ((11, not j.chained) ∷ []) → CodeRead W H p B (some N) bytes old new r
   code-end r q h = record {
     kept = kept_more (omega arith) t.0;
-    answer = h ∙ sym (t.1 ∙ first_miss 10 (not (is_padding (drop at (symbols_of bytes)))) ((11, not c) ∷ []) (ap not (sym e) ∙ q));
+    answer = h ∙ sym (t.1 ∙ first_miss 10 (not (is_padding (drop j.at (symbols_of bytes)))) ((11, not j.chained) ∷ []) (ap not (sym e) ∙ q));
     image = λ z. t.2;
     ones = λ z. t.3;
   }
@@ -115,10 +116,10 @@ pub decode-rows : (W H e : ℕ) (a b : Bool) (image work : List ℕ) {r : ℕ} �
 decode-rows W H e a b image work p q h = h ∙ ap₂ (λ (a b : Bool). first_refusal (row1 W H ∷ row2 e ∷ row3 (a ∷ b ∷ []) ∷ [])) p q
 
 -- what they let pass
-pub decode_ready : (W H e : ℕ) (image work : List ℕ) {r : ℕ} → r ≡ first_refusal (decode_rows W H e image work) → r ≡ 0
+pub decode_ready : (W H e : ℕ) (image work : List ℕ) → 0 ≡ first_refusal (decode_rows W H e image work)
     → Frame W H ((W + 7) / 8) × (0 < H) × (length image ≡ plane_bytes W H) × (5 * plane_bytes W H ≤ length work) × T (is_element e)
-decode_ready W H e image work q z =
-    let d = shaped W H e (not_plane W H image ∷ short_planes 5 W H work ∷ []) [] tt q z in
+decode_ready W H e image work q =
+    let d = shaped W H e (not_plane W H image ∷ short_planes 5 W H work ∷ []) [] tt q in
     let l = d.lengths in (
       sides-frame d.sides,
       d.sides.high,

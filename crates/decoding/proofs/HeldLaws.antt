@@ -12,7 +12,8 @@ use lib.ListN.{drop, length, length-append, length-drop, length-replicate, repli
 use lib.Seq.{drop_at, take_at}
 use Rattle.coding.specs.Runs.{unmasked}
 use Rattle.coding.specs.Symbols.{symbols_of}
-use Rattle.iteration.specs.Steps.{First, Sheet}
+use Rattle.iteration.specs.Steps.{First}
+use Rattle.raster.specs.Frames.{Sheet}
 use Rattle.iteration.proofs.StepLaws.{drop_later, first-clean, first-image, first_zeros, sheet-bytes, three-cleared}
 use Rattle.morphology.specs.Element.{is_element, offsets}
 use Rattle.morphology.specs.Falls.{falls_off}

@@ -12,11 +12,10 @@ use Rattle.coding.proofs.PackLaws.{length_symbols}
 use Rattle.morphology.specs.Lists.{every_of}
 use Rattle.morphology.proofs.TestLaws.{T_ext, and_in, and_l, and_r}
 use Rattle.reading.specs.Splits.{is_padding}
-use Rattle.reading.proofs.TakeLaws.{past-stream}
 
 -- nothing follows past the stream
 pub padding-past : (bytes : List ℕ) (at : ℕ) → length bytes ≤ at / 4 → true ≡ is_padding (drop at (symbols_of bytes))
-padding-past bytes at h = sym (ap is_padding (drop_of_length-le (symbols_of bytes) (past-stream bytes at h)))
+padding-past bytes at h = sym (ap is_padding (drop_of_length-le (symbols_of bytes) (omega (arith, length_symbols bytes))))
 
 -- four symbols or more are no padding
 pub padding_long : (bytes : List ℕ) (at : ℕ) → at + 4 ≤ length bytes * 4 → false ≡ is_padding (drop at (symbols_of bytes))

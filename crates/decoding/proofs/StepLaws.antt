@@ -1,13 +1,14 @@
 -- One size read into work: what each of its steps leaves.
-use mathlib.Core.Bool.{Bool, false}
+use mathlib.Core.Bool.{Bool, ◌||◌, false}
 use mathlib.Core.List.{List, ◌++◌}
-use mathlib.Core.Option.{some}
+use mathlib.Core.Option.{none, some}
 use mathlib.Core.Path.{◌∙◌, ◌≡◌, ap, refl, subst, sym}
 use Prim.Native.Nat.{◌*◌, ◌+◌, ◌≤◌, ℕ}
 use native.Mathlib.Omega.{arith}
 use lib.Dec.{T}
 use lib.ListN.{drop, get_or, length, length-append, length-drop, take}
 use lib.Seq.{drop_at, get_or-take, length-take-le, take-add, take_at}
+use Rattle.std.specs.Prelude.{None, Some}
 use Rattle.coding.specs.Runs.{unmasked}
 use Rattle.covers.specs.Grown.{CoverPair, CoverStart, CoverTested}
 use Rattle.iteration.specs.Steps.{First}
@@ -24,6 +25,7 @@ use Rattle.morphology.proofs.ImageLaws.{Agree, clean_agree, clean-pack, image_ag
 use Rattle.morphology.proofs.MorphologyLaws.{dilate_in, ⊆_of_eq}
 use Rattle.morphology.proofs.PointLaws.{unit}
 use Rattle.morphology.proofs.TestLaws.{or_r}
+use Rattle.placing.specs.Planes.{SizeRead}
 use Rattle.raster.specs.Rows.{overwrite}
 use Rattle.raster.proofs.PartLaws.{drop-overwrite, part-drop, part-overwrite, part-take, put_back}
 use Rattle.reading.specs.Points.{among}
@@ -166,3 +168,43 @@ module _ {W H r p e : ℕ} {old : List ℕ} (s : CoverStart W H r p e old) where
                 near = near;
               },
             )
+
+-- ---- the lent plane with the points of a size, and back
+
+-- what is read of a size that ends
+pub record Found (W H p : ℕ) (B : List Point) (A : Point → Bool) (s : List ℕ) (at end : ℕ) (old new : List ℕ) : Type 0 where
+  pub points : List Point
+  pub reads : read_size (unmasked W H (dilate B A)) (drop at s) ≡ some (points, drop end s)
+  pub second : SecondIs p old (pack W H (joined B points A)) new
+  pub near : end ≤ at + 2 * (W * H) + 2
+
+module _ {W H r p e : ℕ} {old : List ℕ} (start : CoverStart W H r p e old) (stays : falls_off W H (offsets e) (image_set W H old) ≡ false) {v : List ℕ}
+    (a : SecondIs p old (pack W H (dilate (offsets e) (image_set W H old))) v) (k : ℕ) (l : k ≡ p) (s ys : List ℕ) (at : ℕ) where
+  -- the mask is what the lent plane has
+  part_is : take k (drop p v) ≡ pack W H (dilate (offsets e) (image_set W H old))
+  part_is = lent-mask start stays k l a
+
+  same_mask : read_size (unmasked W H (image_set W H (take k (drop p v)))) (drop at s) ≡ read_size (unmasked W H (dilate (offsets e) (image_set W H old))) (drop at s)
+  same_mask = ap (λ (M : Point → Bool). read_size (unmasked W H M) (drop at s)) (lent-set start stays part_is)
+
+  -- a size that cannot be read
+  pub part-unread : SizeRead s W H at (take k (drop p v)) ys None
+      → KeptFrom 3 p old (take p v ++ (ys ++ drop k (drop p v))) × (read_size (unmasked W H (dilate (offsets e) (image_set W H old))) (drop at s) ≡ none)
+  part-unread q =
+      let z : length ys ≡ k = q.0 ∙ ap length part_is ∙ length-pack W H (dilate (offsets e) (image_set W H old)) ∙ sym (sheet-bytes start.sheet) ∙ sym l in
+      let h : 2 * p ≤ length v = omega (arith, a.size, start.room) in
+      (second-kept (second_on a (second-over p v ys _ h (z ∙ l) (put_back p k v ys z))), sym same_mask ∙ q.1)
+
+  -- a size that ends
+  pub part-found : (end : ℕ) → SizeRead s W H at (take k (drop p v)) ys (Some end)
+      → Found W H p (offsets e) (image_set W H old) s at end old (take p v ++ (ys ++ drop k (drop p v)))
+  part-found end q =
+      let reads = sym same_mask ∙ q.1 in
+      record {
+        points = q.0;
+        reads = reads;
+        second =
+            points-over start stays (drop at s) q.0 (drop end s) reads k l a
+            (q.2 ∙ ap (λ (M : Point → Bool). pack W H (λ z. among q.0 z || M z)) (lent-set start stays part_is)) refl;
+        near = q.3;
+      }

@@ -1,9 +1,7 @@
--- What travels beside a stream, as coding/specs/Codes.antt has it.
-use Rattle.std.proofs.Math.Option.{Option, none, some}
-use Rattle.std.specs.Prelude.{ℕ}
-use Rattle.decoding.specs.declared.Mark.{Mark}
-use Rattle.decoding.specs.declared.Mark.TheVariants.{Blank, Largest}
+-- The largest size that travels beside a stream, none of a blank image, as coding/specs/Codes.antt has it.
+use Rattle.std.proofs.Math.Option.{Option as Mark, none, some}
+use Rattle.std.specs.Prelude.{None, Option, Some, ℕ}
 
-abbrev pub mark_of : Mark → Option ℕ
-mark_of Blank = none
-mark_of (Largest n) = some n
+abbrev pub mark_of : Option ℕ → Mark ℕ
+mark_of None = none
+mark_of (Some n) = some n

@@ -1,5 +1,5 @@
 -- What the sizes of a stream leave in work: the first plane has what they cover. Definitions only; proofs/ has the laws.
-use Rattle.std.specs.Prelude.{Bool, ◌||◌, false, not, true, List, [], ◌∷◌, ◌↔◌, ◌⊎◌, ◌≡◌, ◌*◌, ◌+◌, ◌<◌, ◌^◌, ◌≤◌, ℕ, T, drop, length, take}
+use Rattle.std.specs.Prelude.{Bool, ◌||◌, false, not, true, List, [], ◌∷◌, ◌↔◌, ◌⊎◌, ◌≡◌, ◌*◌, ◌+◌, ◌<◌, ◌^◌, ◌≤◌, ℕ, Option as Maybe, Some, None, T, drop, length, take}
 use Rattle.std.proofs.Math.Option.{Option, none, some}
 use Rattle.coding.specs.Runs.{unmasked}
 use Rattle.coding.specs.Symbols.{symbols_of}
@@ -14,7 +14,6 @@ use Rattle.reading.specs.Points.{among}
 use Rattle.reading.specs.Splits.{is_padding}
 use Rattle.reading.specs.Taking.{read_size}
 use Rattle.decoding.specs.declared.Joined.{Joined}
-use Rattle.decoding.specs.declared.Joined.TheVariants.{Bad, To}
 
 -- from the first k planes on work is as it was
 pub record KeptFrom (k p : ℕ) (old new : List ℕ) : Type 0 where
@@ -36,19 +35,19 @@ pub record NextRead (w h p : ℕ) (B : List Point) (s : List ℕ) (A : Point →
   pub near : at' ≤ at + 2 * (w * h) + 2
 
 -- a size is refused where a point of the larger ones leaves the frame when it is grown, or where its symbols cannot be read
-abbrev pub StepRead : ℕ → ℕ → ℕ → List Point → List ℕ → ℕ → List ℕ → List ℕ → Joined → Type 0
-StepRead w h p B s at old new Bad =
+abbrev pub StepRead : ℕ → ℕ → ℕ → List Point → List ℕ → ℕ → List ℕ → List ℕ → Maybe Joined → Type 0
+StepRead w h p B s at old new None =
     KeptFrom 3 p old new × ((falls_off w h B (image_set w h old) ≡ true) ⊎ (read_size (unmasked w h (dilate B (image_set w h old))) (drop at s) ≡ none))
-StepRead w h p B s at old new (To at' chained) = KeptFrom 3 p old new × NextRead w h p B s (image_set w h old) at at' chained new
+StepRead w h p B s at old new (Some q) = KeptFrom 3 p old new × NextRead w h p B s (image_set w h old) at q.at q.chained new
 
 -- all sizes of a stream, the largest N: refused by row 9, or what is left to rows 10 and 11, and the image in the first plane; `at` is a small number
-abbrev pub SizesEnd : ℕ → ℕ → ℕ → List Point → ℕ → List ℕ → List ℕ → List ℕ → Joined → Type 0
-SizesEnd w h p B N bytes old new Bad = KeptFrom 3 p old new × (first_refusal (code_rows w h B (some N) bytes) ≡ 9)
-SizesEnd w h p B N bytes old new (To at chained) =
+abbrev pub SizesEnd : ℕ → ℕ → ℕ → List Point → ℕ → List ℕ → List ℕ → List ℕ → Maybe Joined → Type 0
+SizesEnd w h p B N bytes old new None = KeptFrom 3 p old new × (first_refusal (code_rows w h B (some N) bytes) ≡ 9)
+SizesEnd w h p B N bytes old new (Some q) =
     KeptFrom 3 p old new
-    × (first_refusal (code_rows w h B (some N) bytes) ≡ first_refusal ((10, not (is_padding (drop at (symbols_of bytes)))) ∷ (11, not chained) ∷ []))
+    × (first_refusal (code_rows w h B (some N) bytes) ≡ first_refusal ((10, not (is_padding (drop q.at (symbols_of bytes)))) ∷ (11, not q.chained) ∷ []))
     × (take p new ≡ pack w h (code_set w h B (some N) bytes)) × (ones_of (take p new) ≡ area w h (code_set w h B (some N) bytes))
-    × (at < 2 ^ 40)
+    × (q.at < 2 ^ 40)
 
 -- a code that was read in work: its refusal, or its image in the first plane
 pub record CodeRead (w h p : ℕ) (B : List Point) (n : Option ℕ) (bytes old new : List ℕ) (refusal : ℕ) : Type 0 where

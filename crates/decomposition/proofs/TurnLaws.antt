@@ -25,9 +25,9 @@ use Rattle.morphology.proofs.ElementLaws.{element}
 use Rattle.morphology.proofs.FrameLaws.{OnFrame}
 use Rattle.raster.specs.Rows.{overwrite}
 use Rattle.raster.proofs.RowLaws.{row_in}
-use Rattle.raster.specs.Frames.{Frame}
+use Rattle.raster.specs.Frames.{Frame, Sheet}
 use Rattle.raster.proofs.PackLaws.{frame-bytes}
-use Rattle.iteration.specs.Steps.{First, Sheet}
+use Rattle.iteration.specs.Steps.{First}
 use Rattle.label_write.specs.Labelled.{Labelled, lacking}
 use Rattle.raster.specs.Bands.{EndRow, FirstRow}
 use Rattle.iteration.specs.Bands.{Banded}

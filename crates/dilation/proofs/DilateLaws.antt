@@ -16,10 +16,10 @@ use Rattle.iteration.specs.Steps.{Ready, Wrote}
 use Rattle.iteration.proofs.StepLaws.{ready}
 use Rattle.dilation.specs.Dilation.{dilate_rows, dilated, grown, spreads}
 
-module _ (W H e : ℕ) (image out work : List ℕ) {r : ℕ} (q : r ≡ first_refusal (dilate_rows W H e image out work)) (z : r ≡ 0) where
+module _ (W H e : ℕ) (image out work : List ℕ) (q : 0 ≡ first_refusal (dilate_rows W H e image out work)) where
   pub dilate_ready : Ready W H image out work × T (is_element e)
   dilate_ready =
-      let d = shaped W H e (not_plane W H image ∷ not_plane W H out ∷ short_work W H work ∷ []) (row4 W H image ∷ []) tt q z in
+      let d = shaped W H e (not_plane W H image ∷ not_plane W H out ∷ short_work W H work ∷ []) (row4 W H image ∷ []) tt q in
       let l = d.lengths in
       (ready W H image out work (sides-frame d.sides) l.0 l.1.0 l.1.1.0 d.rest.0, d.element)
 
@@ -29,4 +29,4 @@ module _ (W H e : ℕ) (image out work : List ℕ) {r : ℕ} (q : r ≡ first_re
   dilate_done n fell out' work' h f =
       ap₂ (λ (k : ℕ) (b : Bool). outcome (grown k b) (out' ∷ work' ∷ [])) h.answer f
       ∙ ap₂ (λ (o w : List ℕ). outcome (spreads W H e (image_set W H image) work).answer (o ∷ w ∷ [])) h.image h.left
-      ∙ sym (unless_in (first_refusal (dilate_rows W H e image out work)) (out ∷ work ∷ []) (spreads W H e (image_set W H image) work) (sym q ∙ z))
+      ∙ sym (unless_in (first_refusal (dilate_rows W H e image out work)) (out ∷ work ∷ []) (spreads W H e (image_set W H image) work) (sym q))

@@ -1,6 +1,6 @@
 -- One dilation with its own answer, as an operation over any arguments. Not one of 01 or 02: T-06's answer, for tests.
-use Rattle.std.specs.Prelude.{Bool, cond, List, [], ◌∷◌, ℕ}
-use Rattle.morphology.specs.Answers.{Answer, Outcome, answered, outcome, refused}
+use Rattle.std.specs.Prelude.{Bool, Result, cond, List, [], ◌∷◌, ℕ}
+use Rattle.morphology.specs.Answers.{Answer, Outcome, answered, outcome}
 use Rattle.morphology.specs.Element.{offsets}
 use Rattle.morphology.specs.Falls.{falls_off}
 use Rattle.morphology.specs.Image.{clip, image_set, pack}
@@ -9,16 +9,19 @@ use Rattle.morphology.specs.Morphology.{dilate}
 use Rattle.morphology.specs.Operations.{cleared}
 use Rattle.morphology.specs.Point.{Point}
 use Rattle.morphology.specs.Refusals.{Row, checked, not_plane, row1, row2, row3, row4, short_work}
-use Rattle.dilation.specs.declared.Dilated.{Dilated}
-use Rattle.dilation.specs.declared.Dilated.TheVariants.{Done, Refused}
+use Rattle.iteration.specs.declared.Inked.{Inked}
+use Rattle.refusals.specs.Refusal.{answer_by}
+use Rattle.refusals.specs.declared.Refusal.{Refusal}
 
 -- the area on the sheet, and 1 where a point fell off
 abbrev pub grown : ℕ → Bool → Answer
 grown n fell = answered (n ∷ cond fell 1 0 ∷ [])
 
-abbrev pub answer_of : Dilated → Answer
-answer_of (Refused n) = refused n
-answer_of (Done n fell) = grown n fell
+abbrev pub dilation : Inked → Answer
+dilation i = grown i.area i.clipped
+
+abbrev pub answer_of : Result Inked Refusal → Answer
+answer_of r = answer_by dilation r
 
 -- the rows of an erosion, but for that of its number
 abbrev pub dilate_rows : ℕ → ℕ → ℕ → List ℕ → List ℕ → List ℕ → List Row

@@ -9,7 +9,7 @@ use lib.ListN.{drop, get_or, length, length-drop, length-replicate, replicate, t
 use lib.Seq.{ext_get_or, get_or-drop, length-take-le}
 use Rattle.coding.specs.Runs.{runs, unmasked}
 use Rattle.coding.specs.Writing.{eroded_runs}
-use Rattle.iteration.specs.Steps.{Sheet}
+use Rattle.raster.specs.Frames.{Sheet}
 use Rattle.iteration.proofs.StepLaws.{sheet-bytes}
 use Rattle.morphology.specs.Element.{is_element, offsets}
 use Rattle.morphology.specs.Image.{image_set, is_clean, pack, plane_bytes}

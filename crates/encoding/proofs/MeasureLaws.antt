@@ -4,7 +4,7 @@ use mathlib.Core.List.{List, [], ◌∷◌, map}
 use mathlib.Core.Path.{◌∙◌, ◌≡◌, ap, refl, subst, sym}
 use Prim.Native.Nat.{◌*◌, ◌+◌, ◌<◌, ◌^◌, ◌≤◌, max, suc, zero, ℕ}
 use native.Mathlib.Decide.{dec_lt}
-use native.Mathlib.Nat.{mul-le-mul_right, zero-add}
+use native.Mathlib.Nat.{mul-le-mul_right, suc-ne-zero, zero-add}
 use native.Mathlib.Omega.{arith}
 use lib.Dec.{T, eqb}
 use lib.ListN.{get_or, length, length-append, replicate, set, take}
@@ -13,25 +13,25 @@ use Rattle.coding.specs.Runs.{runs, unmasked}
 use Rattle.coding.specs.Symbols.{numeral, section}
 use Rattle.coding.specs.Writing.{ending, eroded_runs, runs_symbols}
 use Rattle.coding.proofs.SectionLaws.{section-runs}
-use Rattle.iteration.specs.Steps.{First, Sheet}
+use Rattle.iteration.specs.Steps.{First}
+use Rattle.raster.specs.Frames.{Frame, Sheet}
 use Rattle.iteration.proofs.StepLaws.{first_zeros, sheet-bytes}
 use Rattle.morphology.specs.Element.{is_element, offsets}
-use Rattle.morphology.specs.Image.{image_set, plane_bytes}
+use Rattle.morphology.specs.Image.{image_set, is_clean, plane_bytes}
 use Rattle.morphology.specs.Lists.{some_of}
 use Rattle.morphology.specs.Morphology.{dilate, erode, opening, times}
 use Rattle.morphology.specs.Point.{Point}
 use Rattle.morphology.proofs.DecomposeLaws.{eroded_on, turns_lt}
 use Rattle.morphology.proofs.ElementLaws.{element}
 use Rattle.morphology.proofs.FrameLaws.{OnFrame}
-use Rattle.morphology.proofs.ImageLaws.{length-row}
+use Rattle.morphology.proofs.ImageLaws.{image_on, length-row}
 use Rattle.morphology.proofs.PlaneLaws.{empty-pack, pack-empty, some-point}
-use Rattle.raster.specs.Frames.{Frame}
 use Rattle.raster.specs.Limits.{max_frame}
 use Rattle.sections.specs.Kinds.{kinds_from}
 use Rattle.sections.specs.Pens.{Marked, PenRoom}
 use Rattle.sections.proofs.KindLaws.{frame-runs, symbols_le}
-use Rattle.encoding.specs.Sizes.{Lengths, SizesPassed, open_runs, symbols_below}
-use Rattle.encoding.proofs.SizeLaws.{below_suc, passed-runs}
+use Rattle.encoding.specs.Sizes.{Lengths, Measured, SizesPassed, SizeStepped, open_runs, symbols_below}
+use Rattle.encoding.proofs.SizeLaws.{below_suc, passed-clean, passed_more, passed-runs}
 
 -- ---- how long a section is
 
@@ -165,3 +165,67 @@ lengths_more {W} {H} {B} {X} {n} {l} {total} v m h q =
     by k b (no i) =
         let z : n ≡ k = omega arith in
         subst (λ (j : ℕ). get_or (set l n v) j 0 ≡ length (section (map numeral (eroded_runs W H B X j)))) z (get_or-set_same l n v 0 h ∙ q)
+
+-- ---- the sizes counted so far
+
+-- the sizes below n are measured, the last of them had ink, and the plane of size n stands in work
+pub record Counted (W H p e : ℕ) (work₀ : List ℕ) (n total : ℕ) (lengths work : List ℕ) : Type 0 where
+  pub plane : SizesPassed W H p (offsets e) (image_set W H work₀) n work₀ work
+  pub measured : Lengths W H (offsets e) (image_set W H work₀) n lengths total
+  pub before : (k : ℕ) → n ≡ suc k → (z : Point) × T (erode (times (offsets e) k) (image_set W H work₀) z)
+
+-- none at first
+pub counted-start : (W H p e : ℕ) (work lengths : List ℕ) → SizesPassed W H p (offsets e) (image_set W H work) 0 work work → Counted W H p e work 0 0 lengths work
+counted-start W H p e work lengths t = record {
+  plane = t;
+  measured = lengths-start W H (offsets e) (image_set W H work) lengths;
+  before = λ k q. absurd (suc-ne-zero k (sym q));
+}
+
+module _ {W H r p e : ℕ} {work₀ : List ℕ} {n total : ℕ} {lengths work : List ℕ} (sheet : Sheet W H r p) (el : T (is_element e))
+    (w : Counted W H p e work₀ n total lengths work) where
+  abbrev on : OnFrame W H (image_set W H work₀)
+  on = image_on W H work₀
+
+  pub counted-clean : T (is_clean W H work)
+  counted-clean = passed-clean e sheet el on w.plane
+
+  -- few symbols until now
+  pub counted-small : total < 2 ^ 33
+  counted-small = omega (arith, w.measured.whole, total-small sheet.frame e el on n w.before)
+
+  -- where the plane has ink
+  module _ (ink : some_of (λ b. not (eqb b 0)) (take p work) ≡ true) where
+    pub counted-ink : (z : Point) × T (erode (times (offsets e) n) (image_set W H work₀) z)
+    counted-ink = passed-point e sheet el on w.plane ink
+
+    pub counted-below : n < max W H
+    counted-below = ink_lt W H e el on n counted-ink
+
+    pub counted-few : n < max_frame
+    counted-few = let f = sheet.frame in omega (arith, counted-below, f.across, f.down)
+
+    -- it is one size more, of m symbols
+    pub counted_more : {old new work' : List ℕ} {m : ℕ} (v : ℕ) → n < length lengths → SizeStepped false W H p (offsets e) work work' old new 0 m
+        → ((rs : List ℕ) → m ≡ length (runs_symbols rs) → v ≡ length (section (map numeral rs)))
+        → Counted W H p e work₀ (n + 1) (total + v) (set lengths n v) work'
+    counted_more v long d size = record {
+      plane = passed_more e sheet el on w.plane d.planes;
+      measured = lengths_more v w.measured long (size _ (passed-count e sheet el on w.plane d.runs));
+      before = before_more (offsets e) (image_set W H work₀) n counted-ink;
+    }
+
+  -- and where it has none, these are all
+  pub counted_all : p ≤ length work → some_of (λ b. not (eqb b 0)) (take p work) ≡ false
+      → Measured W H p (offsets e) (image_set W H work₀) n lengths total work₀ work
+  counted_all long none = record {
+    measured = w.measured;
+    before = w.before;
+    gone = passed-gone e sheet el on w.plane long none;
+    size = w.plane.size;
+    rest = w.plane.rest;
+  }
+
+-- the runs of a size have few symbols
+pub runs-small : {W H r p : ℕ} → Sheet W H r p → {B : List Point} {work old new work' : List ℕ} {m : ℕ} → SizeStepped false W H p B work work' old new 0 m → m ≤ 2 ^ 21
+runs-small {W} {H} sheet {B} {work} d = omega (arith, open_le W H B work, d.runs.pen, frame_small sheet.frame)

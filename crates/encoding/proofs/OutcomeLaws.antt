@@ -93,8 +93,8 @@ measured_as {W} {H} {p} {B} {X} {Y} {n} {total} {lengths} {u} {u'} {v} e l d m =
 
 -- ---- what the table lets pass
 
-pub encode_ready : (W H e : ℕ) (image work : List ℕ) {r : ℕ} → r ≡ first_refusal (encode_rows W H e image work) → r ≡ 0 → Ready W H image image work × T (is_element e)
-encode_ready W H e image work q z =
-    let d = shaped W H e (not_plane W H image ∷ short_work W H work ∷ []) (row4 W H image ∷ []) tt q z in
+pub encode_ready : (W H e : ℕ) (image work : List ℕ) → 0 ≡ first_refusal (encode_rows W H e image work) → Ready W H image image work × T (is_element e)
+encode_ready W H e image work q =
+    let d = shaped W H e (not_plane W H image ∷ short_work W H work ∷ []) (row4 W H image ∷ []) tt q in
     let l = d.lengths in
     (ready W H image image work (sides-frame d.sides) l.0 l.0 l.1.0 d.rest.0, d.element)

@@ -17,7 +17,8 @@ use Rattle.coding.proofs.MaskLaws.{map-eroded}
 use Rattle.coding.proofs.NumeralLaws.{length_pos}
 use Rattle.coding.proofs.SectionLaws.{section-runs}
 use Rattle.iteration.specs.Bands.{Banded, PlaneEroded}
-use Rattle.iteration.specs.Steps.{First, Sheet}
+use Rattle.iteration.specs.Steps.{First}
+use Rattle.raster.specs.Frames.{Frame, Sheet}
 use Rattle.iteration.proofs.BandLaws.{band_fit, band-image, band-rows}
 use Rattle.iteration.proofs.OpenLaws.{opened-first, opened_third}
 use Rattle.iteration.proofs.StepLaws.{first-clean, first-image, sheet-bytes}
@@ -34,7 +35,6 @@ use Rattle.morphology.proofs.ElementLaws.{element}
 use Rattle.morphology.proofs.FrameLaws.{OnFrame}
 use Rattle.morphology.proofs.MorphologyLaws.{eroded-suc, eroded-zero, open_sub}
 use Rattle.morphology.proofs.SkeletonLaws.{label_le}
-use Rattle.raster.specs.Frames.{Frame}
 use Rattle.raster.specs.Rows.{overwrite}
 use Rattle.raster.proofs.RowLaws.{rows_in}
 use Rattle.sections.specs.Kinds.{Kind, count_after, free, kind, kinds_from, runs_of}

@@ -103,20 +103,17 @@ padding symbols = replicate (4 * ((symbols + 3) / 4) - symbols) 0
 pub record Streamed (f : ℕ → List ℕ) (n symbols end : ℕ) (out : List ℕ) : Type 0 where
   pub place : end + length (symbols_below f n) ≡ symbols
   pub stream : symbols_of out ≡ replicate end 0 ++ (symbols_below f n ++ padding symbols)
-  pub bytes : (i : ℕ) → get_or out i 0 < 256
 
 -- none at first
-pub written_none : (f : ℕ → List ℕ) (symbols : ℕ) (out : List ℕ) → out ≡ replicate ((symbols + 3) / 4) 0 → ((i : ℕ) → get_or out i 0 < 256)
-    → Streamed f 0 symbols symbols out
+pub written_none : (f : ℕ → List ℕ) (symbols : ℕ) (out : List ℕ) → out ≡ replicate ((symbols + 3) / 4) 0 → Streamed f 0 symbols symbols out
 unfolding symbols_below
-written_none f symbols out e b =
+written_none f symbols out e =
     let k = (symbols + 3) / 4 in
     let pad = 4 * k - symbols in
     let q : 4 * k ≡ symbols + pad = omega arith in
     record {
       place = add-zero symbols;
       stream = ap symbols_of e ∙ symbols_zeros k ∙ ap (λ (n : ℕ). replicate {A = ℕ} n 0) q ∙ sym (replicate-append-replicate symbols pad 0);
-      bytes = b;
     }
 
 module _ {f : ℕ → List ℕ} {n symbols end : ℕ} {out : List ℕ} (w : Streamed f n symbols end out) where
@@ -158,33 +155,30 @@ module _ {f : ℕ → List ℕ} {n symbols end : ℕ} {out : List ℕ} (w : Stre
     }
 
     -- and is one more when it is there
-    one_more : (out' : List ℕ) → ((i : ℕ) → get_or out' i 0 < 256) → symbols_of out' ≡ replicate a 0 ++ (section (map numeral (f n)) ++ after)
-        → Streamed f (n + 1) symbols a out'
-    one_more out' b e =
+    one_more : (out' : List ℕ) → symbols_of out' ≡ replicate a 0 ++ (section (map numeral (f n)) ++ after) → Streamed f (n + 1) symbols a out'
+    one_more out' e =
         let s = section (map numeral (f n)) in
         record {
           place = omega (arith, ap length (below_suc f n), length-append s (symbols_below f n), next, w.place);
           stream = e ∙ ap (λ (l : List ℕ). replicate a 0 ++ l)
               (sym (append_assoc s (symbols_below f n) (padding symbols)) ∙ ap (λ (l : List ℕ). l ++ padding symbols) (sym (below_suc f n)));
-          bytes = b;
         }
 
     -- by its runs
-    pub written-runs : {rs out' : List ℕ} {a' : ℕ} → rs ≡ f n → Marked true rs out out' a a' → ((i : ℕ) → get_or out' i 0 < 256)
-        → Streamed f (n + 1) symbols a out'
-    written-runs {rs} {out'} e m b =
-        one_more out' b
+    pub written-runs : {rs out' : List ℕ} {a' : ℕ} → rs ≡ f n → Marked true rs out out' a a' → Streamed f (n + 1) symbols a out'
+    written-runs {rs} {out'} e m =
+        one_more out'
         (m.symbols ∙ ap₂ (λ (l ss : List ℕ). sets l a (runs_symbols ss)) w.stream e ∙ sets-section a end (f n) after next)
 
     -- or as it stands, where it is two commas
     pub written_two : length (section (map numeral (f n))) ≡ 2 → Streamed f (n + 1) symbols a out
-    written_two two = one_more out w.bytes (w.stream ∙ commas-section a end (f n) after next two)
+    written_two two = one_more out (w.stream ∙ commas-section a end (f n) after next two)
 
   -- all are written: the bytes of the symbols
-  pub written_all : symbols ≡ length (symbols_below f n) → out ≡ pack_symbols (symbols_below f n)
-  written_all e =
+  pub written_all : ((i : ℕ) → get_or out i 0 < 256) → symbols ≡ length (symbols_below f n) → out ≡ pack_symbols (symbols_below f n)
+  written_all bytes e =
       let z : end ≡ 0 = omega (arith, w.place, e) in
-      sym (pack-symbols out (bytes_are out w.bytes))
+      sym (pack-symbols out (bytes_are out bytes))
       ∙ ap pack_symbols (w.stream ∙ ap (λ (k : ℕ). replicate k 0 ++ after) z)
       ∙ pack_padded (symbols_below f n) (4 * ((symbols + 3) / 4) - symbols) (omega arith) (omega (arith, e))
 

@@ -1,8 +1,6 @@
 -- What was read lies within the buffer.
-use Rattle.std.proofs.Common.{List, length, subst, take, ◌≡◌, ◌≤◌, ℕ}
+use Rattle.std.proofs.Common.{List, Ok, Result, length, subst, take, ◌≡◌, ◌≤◌, ℕ}
 use Rattle.input.specs.Filled.{Filled}
-use Rattle.input.specs.declared.Input.{Input}
-use Rattle.input.specs.declared.Input.TheVariants.{Read}
 
-pub filled_read : {r : Input} {n : ℕ} (buf : List ℕ) → r ≡ Read n → Filled r buf → (n ≤ length buf) × (n ≡ length (take n buf))
-filled_read buf e w = subst (λ (r : Input). Filled r buf) e w
+pub filled_read : {E : Type 0} {r : Result ℕ E} {n : ℕ} (buf : List ℕ) → r ≡ Ok n → Filled r buf → (n ≤ length buf) × (n ≡ length (take n buf))
+filled_read {E} buf e w = subst (λ (r : Result ℕ E). Filled r buf) e w

@@ -21,12 +21,11 @@ use Rattle.morphology.proofs.MorphologyLaws.{◌⊆◌, erode_sub}
 use Rattle.morphology.proofs.ElementLaws.{element}
 use Rattle.raster.specs.Rows.{overwrite}
 use Rattle.raster.proofs.PartLaws.{PartIs, part_back, part-overwrite}
-use Rattle.raster.specs.Frames.{Frame}
+use Rattle.raster.specs.Frames.{Frame, Sheet}
 use Rattle.raster.proofs.PackLaws.{frame-bytes, frame_row}
 use Rattle.raster.proofs.RowLaws.{rows_in}
 use Rattle.raster.specs.Bands.{BlankRow, EndRow, FirstRow}
 use Rattle.iteration.specs.Bands.{Banded, PlaneEroded}
-use Rattle.iteration.specs.Steps.{Sheet}
 use Rattle.iteration.proofs.StepLaws.{first-start}
 
 -- the first b rows lie in the first plane

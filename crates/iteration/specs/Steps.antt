@@ -7,11 +7,6 @@ use Rattle.morphology.specs.Operations.{cleared}
 use Rattle.morphology.specs.Point.{Point}
 use Rattle.raster.specs.Frames.{Frame}
 
--- w and h are sides, r is a row's bytes, p a plane's
-pub record Sheet (w h r p : ℕ) : Type 0 where
-  pub frame : Frame w h r
-  pub plane : p ≡ h * r
-
 -- the first plane of new is S; from the third on new is old
 pub record First (W H p : ℕ) (S : Point → Bool) (old new : List ℕ) : Type 0 where
   pub size : length new ≡ length old

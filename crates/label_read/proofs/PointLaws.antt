@@ -1,5 +1,5 @@
 -- Points joined to a plane, row by row.
-use mathlib.Core.Bool.{Bool, ◌&&◌, ◌||◌, cond, false, not, or_comm, true}
+use mathlib.Core.Bool.{Bool, ◌&&◌, ◌||◌, cond, false, or_comm, true}
 use mathlib.Core.List.{List, [], ◌++◌, ◌∷◌, map, map-append}
 use mathlib.Core.Path.{◌∙◌, ◌≡◌, ap, ap₂, refl, subst, sym}
 use Prim.Native.Nat.{◌%◌, ◌*◌, ◌+◌, ◌-◌, ◌/◌, ◌<◌, ◌^◌, ◌≤◌, max, suc, zero, zero-le, ℕ}
@@ -13,6 +13,7 @@ use lib.Dec.{T, eqb, ltb}
 use lib.IntN.{pos}
 use lib.ListN.{drop, get_or, length, length-drop, take}
 use lib.Seq.{get_or-drop, get_or-take, length-take-le, take-suc}
+use Rattle.std.specs.Int.{from_bool}
 use Rattle.morphology.specs.Image.{bit_of, from_bits, image_set, is_clean, stride}
 use Rattle.morphology.specs.Labels.{label_at}
 use Rattle.morphology.specs.Lists.{greatest, some_of}
@@ -22,7 +23,6 @@ use Rattle.morphology.proofs.CountLaws.{digit}
 use Rattle.morphology.proofs.ImageLaws.{bit-from_bits, bits_of, from_bits_lt}
 use Rattle.raster.specs.Rows.{Pixelwise, PlaneIs, RowIs, row_bit}
 use Rattle.raster.proofs.ByteLaws.{below8, join-bit}
-use Rattle.raster.proofs.BufferLaws.{any-suc, or-ink}
 use Rattle.raster.proofs.LoopLaws.{Mapped}
 use Rattle.raster.proofs.PartLaws.{pixelwise-part, row_same}
 use Rattle.raster.proofs.RowLaws.{mapped-pixels}
@@ -92,18 +92,6 @@ below-same v (b ∷ l) h = ap₂ max (below-same v l (omega arith)) (by (dec_lt 
     by (no k) (yes j) = absurd (omega (arith, under_lt b (v + 1) j))
     by (no k) (no j) = under_ge b (v + 1) (omega arith) ∙ sym (under_ge b v (omega arith))
 
--- ---- a label of a row
-
-same-ink : (c : Bool) → not (eqb (cond c 1 0) 0) ≡ c
-same-ink true = refl
-same-ink false = refl
-
-pub seen_more : (seen v : ℕ) (l : List ℕ) (i : ℕ) → i < length l → not (eqb seen 0) ≡ some_of (λ b. eqb b v) (take i l)
-    → not (eqb (bit_or seen (cond (eqb (get_or l i 0) v) 1 0)) 0) ≡ some_of (λ b. eqb b v) (take (i + 1) l)
-seen_more seen v l i h e =
-    or-ink seen (cond (eqb (get_or l i 0) v) 1 0) ∙ ap₂ (λ (c d : Bool). c || d) e (same-ink (eqb (get_or l i 0) v))
-    ∙ sym (ap (λ (n : ℕ). some_of (λ b. eqb b v) (take n l)) (add-one i) ∙ any-suc (λ b. eqb b v) l i h)
-
 -- ---- bits
 
 bits_last : (f : ℕ → Bool) (i n : ℕ) → from_bits f i (suc n) ≡ from_bits f i n * 2 + digit (f (i + n))
@@ -121,16 +109,25 @@ bits_last f i (suc n) =
     by true = omega (arith, pow-suc 2 n)
     by false = omega arith
 
-pub bits_more : (f : ℕ → Bool) (n b : ℕ) → b ≡ from_bits f 0 n → b * 2 + digit (f n) ≡ from_bits f 0 (n + 1)
-bits_more f n b e =
-    ap (λ (k : ℕ). k * 2 + digit (f n)) e ∙ sym (ap (from_bits f 0) (add-one n) ∙ bits_last f 0 n ∙ ap (λ (k : ℕ). from_bits f 0 n * 2 + digit (f k)) (zero_plus n))
+-- a test as a byte
+byte-digit : (c : Bool) → from_bool c ≡ digit c
+byte-digit true = refl
+byte-digit false = refl
+
+pub bits_more : (f : ℕ → Bool) (c : Bool) (n b : ℕ) → c ≡ f n → b ≡ from_bits f 0 n → b * 2 + from_bool c ≡ from_bits f 0 (n + 1)
+bits_more f c n b q e =
+    ap₂ (λ (k : ℕ) (d : Bool). k * 2 + from_bool d) e q ∙ ap (λ (k : ℕ). from_bits f 0 n * 2 + k) (byte-digit (f n)) ∙ sym (ap (from_bits f 0) (add-one n) ∙ bits_last f 0 n ∙ ap (λ (k : ℕ). from_bits f 0 n * 2 + digit (f k)) (zero_plus n))
   where
     zero_plus : (n : ℕ) → 0 + n ≡ n
     zero_plus n = omega arith
 
 -- at most seven of them, and room for one more
-pub bits-room : (f : ℕ → Bool) (n b : ℕ) → n < 8 → b ≡ from_bits f 0 n → b < 128
-bits-room f n b h e = omega (arith, from_bits_lt f 0 n, below8 (λ n. 2 ^ n ≤ 128) (omega arith) (omega arith) (omega arith) (omega arith) (omega arith) (omega arith) (omega arith) (omega arith) n h)
+pub bits_fit : (f : ℕ → Bool) (c : Bool) (n b : ℕ) → n < 8 → b ≡ from_bits f 0 n → b * 2 + from_bool c < 256
+bits_fit f c n b h e = by c (omega (arith, from_bits_lt f 0 n, below8 (λ n. 2 ^ n ≤ 128) (omega arith) (omega arith) (omega arith) (omega arith) (omega arith) (omega arith) (omega arith) (omega arith) n h))
+  where
+    by : (c : Bool) → b < 128 → b * 2 + from_bool c < 256
+    by true l = omega arith
+    by false l = omega arith
 
 -- bits of two tests that agree
 pub bits-same : (f g : ℕ → Bool) (i j n : ℕ) → ((k : ℕ) → k < n → f (i + k) ≡ g (j + k)) → from_bits f i n ≡ from_bits g j n

@@ -4,7 +4,7 @@ use mathlib.Core.List.{List, ◌++◌}
 use mathlib.Core.Path.{◌∙◌, ◌≡◌, ap, ap₂, refl, subst, sym}
 use Prim.Native.Nat.{◌%◌, ◌*◌, ◌+◌, ◌-◌, ◌/◌, ◌<◌, ◌^◌, ◌≤◌, suc, zero, ℕ}
 use native.Mathlib.Decide.{dec_lt}
-use native.Mathlib.Nat.{add_assoc, add-mul, add-sub_of_le, add-zero, le_refl, mul_comm, mul-le-mul_right, not-suc-le-zero, suc-mul, zero-add, zero-mul}
+use native.Mathlib.Nat.{add_assoc, add-mul, add-zero, le_refl, mul_comm, mul-le-mul_right, not-suc-le-zero, suc-mul, zero-add, zero-mul}
 use native.Mathlib.Numerals.{add-one}
 use native.Mathlib.Omega.{arith}
 use borrow.Author.Tests.{lt-ltb}
@@ -148,14 +148,14 @@ unfolding count_of tabulate
 row-none at f v old = record { size = refl; before = λ j l. refl; after = λ j l. refl; places = λ x l. absurd (not-suc-le-zero l); points = refl }
 
 -- m labels more
-pub row_more : (at x m : ℕ) (f g : ℕ → Bool) (v : ℕ) (old u u' : List ℕ) (n k : ℕ) → ((j : ℕ) → j < m → g j ≡ f (x + j))
-    → RowLabelled at x f v old u n → RowLabelled (at + x) m g v u u' k → RowLabelled at (x + m) f v old u' (n + k)
-row_more at x m f g v old u u' n k e a b = record {
+pub row_more : (at x m w : ℕ) (f g : ℕ → Bool) (v : ℕ) (old u u' : List ℕ) (n k : ℕ) → w ≡ x + m → ((j : ℕ) → j < m → g j ≡ f (x + j))
+    → RowLabelled at x f v old u n → RowLabelled (at + x) m g v u u' k → RowLabelled at w f v old u' (n + k)
+row_more at x m w f g v old u u' n k q e a b = record {
   size = b.size ∙ a.size;
   before = λ j l. b.before j (omega arith) ∙ a.before j l;
   after = λ j l. b.after j (omega arith) ∙ a.after j (omega arith);
-  places = λ j l. by j (dec_lt j x) l;
-  points = ap₂ (λ (p q : ℕ). p + q) a.points b.points ∙ sym (count_on f g x m e);
+  places = λ j l. by j (dec_lt j x) (omega arith);
+  points = ap₂ (λ (p q : ℕ). p + q) a.points b.points ∙ sym (count_on f g x m e) ∙ ap (λ (i : ℕ). count_of f (up_to i)) (sym q);
 }
   where
     by : (j : ℕ) → Dec (j < x) → j < x + m → get_or u' (at + j) 0 ≡ cond (f j) v (get_or old (at + j) 0)
@@ -168,17 +168,11 @@ row_more at x m f g v old u u' n k e a b = record {
         ap (λ (t : ℕ). get_or u' t 0) (sym q) ∙ b.places i hi
         ∙ ap₂ (λ (c : Bool) (t : ℕ). cond c v t) (e i hi ∙ ap f z) (ap (λ (t : ℕ). get_or u t 0) q ∙ a.after (at + j) (omega arith))
 
--- the rest of w labels
-pub row-rest : (at x w : ℕ) (f g : ℕ → Bool) (v : ℕ) (old u u' : List ℕ) (n k : ℕ) → x ≤ w → ((j : ℕ) → j < w - x → g j ≡ f (x + j))
-    → RowLabelled at x f v old u n → RowLabelled (at + x) (w - x) g v u u' k → RowLabelled at w f v old u' (n + k)
-row-rest at x w f g v old u u' n k h e a b =
-    subst (λ (m : ℕ). RowLabelled at m f v old u' (n + k)) (omega arith) (row_more at x (w - x) f g v old u u' n k e a b)
-
--- from byte x / 8 on
-pub left_on : (s : List ℕ) (a b x j : ℕ) → x % 8 ≡ 0 → left_at s (a + x / 8) (b + x / 8) j ≡ left_at s a b (x + j)
-left_on s a b x j e =
-    let ea : 8 * (a + x / 8) + j ≡ 8 * a + (x + j) = omega arith in
-    let eb : 8 * (b + x / 8) + j ≡ 8 * b + (x + j) = omega arith in
+-- from byte k on
+pub left_on : (s : List ℕ) (a b k j : ℕ) → left_at s (a + k) (b + k) j ≡ left_at s a b (8 * k + j)
+left_on s a b k j =
+    let ea : 8 * (a + k) + j ≡ 8 * a + (8 * k + j) = omega arith in
+    let eb : 8 * (b + k) + j ≡ 8 * b + (8 * k + j) = omega arith in
     ap₂ (λ (c d : ℕ). row_bit s c && not (row_bit s d)) ea eb
 
 -- ---- rows of a plane
@@ -267,10 +261,6 @@ left-lacking W H r q s e y x hy hx =
 
     dropped : row_bit s (8 * (q + y * r) + x) ≡ row_bit (drop q s) (8 * (y * r) + x)
     dropped = drop-bit q s (8 * (y * r) + x) (8 * (q + y * r) + x) (omega arith)
-
--- the bytes of rows y to e
-pub block-bytes : (y e r : ℕ) → y ≤ e → y * r + (e - y) * r ≡ e * r
-block-bytes y e r h = sym (add-mul y (e - y) r) ∙ ap (λ (k : ℕ). k * r) (add-sub_of_le h)
 
 -- rows that are the same
 pub rows_same : (W H r q v : ℕ) (s old : List ℕ) (y e : ℕ) → r ≡ stride W → y ≤ e → e ≤ H

@@ -1,33 +1,27 @@
 // Label buffers beside planes: labels written where one plane has a point that another lacks.
 #![tactic(auto)]
 
-ghost use Rattle.std.specs.Prelude.{◌≡◌, cond, ◌+◌, ◌*◌, ◌/◌, ◌<◌, ◌≤◌, ℕ, length};
+ghost use Rattle.std.specs.Prelude.{◌≡◌, ◌+◌, ◌*◌, ◌/◌, ◌<◌, ◌≤◌, ℕ, length};
 ghost use Rattle.morphology.specs.Image.{bit_of};
-ghost use Rattle.raster.specs.Frames.{Frame};
+ghost use Rattle.raster.specs.Frames.{Frame as IsFrame};
 ghost use Rattle.raster.specs.Limits.{max_frame};
 ghost use Rattle.label_write.specs.Labelled.{left_at, lacking, RowLabelled, RowsLabelled, Labelled};
 
-fn chosen(left: bool, v: u8, old: u8) -> u8
-    ensures { result ≡ cond left v old }
-{
-    if left {
-        return v;
-    }
-    old
-}
+use raster::Frame;
 
 // v at each of at most eight labels whose pixel in a byte is foreground. Answers how many.
 fn label_few(byte: u8, v: u8, labels: &mut [u8]) -> u32
     requires { length labels.old ≤ 8 }
     ensures { RowLabelled 0 (length labels.old) (bit_of byte) v labels.old labels.new result }
 {
-    let mut x: usize = 0;
-    while x < labels.len() {
-        labels[x] = chosen(raster::is_ink(byte, x), v, labels[x]);
-        x = x + 1;
+    for x in 0..labels.len() {
+        // Read whether it stays or not: the compiler makes no branch of the choice.
+        let old = labels[x];
+        let ink = raster::is_ink(byte, x);
+        labels[x] = if ink { v } else { old };
     }
-    let k = (8 - labels.len()) as u32;
-    u32::count_ones((byte as u32) >> k)
+    let k = 8 - labels.len();
+    (u32::from(byte) >> k).count_ones()
 }
 
 // The m labels from at on, of one byte of each plane; passed over where nothing is left.
@@ -47,16 +41,15 @@ fn label_bytes(s: &[u8], a: usize, b: usize, at: usize, w: usize, v: u8, labels:
     requires { (a + (w + 7) / 8 ≤ length s.now) × (b + (w + 7) / 8 ≤ length s.now) × (w ≤ max_frame) × (at + w ≤ length labels.old) }
     ensures { RowLabelled at w (left_at s.now a b) v labels.old labels.new result }
 {
-    let mut n: u32 = 0;
-    let mut x: usize = 0;
-    while x + 8 <= w {
-        n = n + label_byte(s, a + x / 8, b + x / 8, at + x, 8, v, labels);
-        x = x + 8;
+    let whole = w / 8;
+    let mut n = 0;
+    for k in 0..whole {
+        n += label_byte(s, a + k, b + k, at + 8 * k, 8, v, labels);
     }
-    if x == w {
+    if w % 8 == 0 {
         return n;
     }
-    n + label_byte(s, a + x / 8, b + x / 8, at + x, w - x, v, labels)
+    n + label_byte(s, a + whole, b + whole, at + 8 * whole, w % 8, v, labels)
 }
 
 // Row y of the first plane and of the plane at q; passed over where they are the same.
@@ -72,17 +65,6 @@ fn label_line(s: &[u8], w: usize, r: usize, q: usize, y: usize, v: u8, labels: &
     label_bytes(s, a, b, y * w, w, v, labels)
 }
 
-// The row before which the block of rows that begins with row y ends: sixteen rows, or those that are left.
-fn block_end(y: usize, h: usize) -> usize
-    requires { y < h }
-    ensures { (y < result) × (result ≤ h) }
-{
-    if h - y < 16 {
-        return h;
-    }
-    y + 16
-}
-
 // Rows y to e of the first plane and of the plane at q; passed over at once where they are all the same.
 fn label_rows(
     s: &[u8],
@@ -94,41 +76,31 @@ fn label_rows(
     v: u8,
     labels: &mut [u8],
 ) -> u32
-    requires { Frame w e r × (y ≤ e) × (e * r ≤ q) × (q + e * r ≤ length s.now) × (e * w ≤ length labels.old) }
+    requires { IsFrame w e r × (y ≤ e) × (e * r ≤ q) × (q + e * r ≤ length s.now) × (e * w ≤ length labels.old) }
     ensures { (h : ℕ) → e ≤ h → RowsLabelled w (lacking w h q s.now) v y e labels.old labels.new result }
 {
     let top = y * r;
     if raster::same_rows(s, top, q + top, (e - y) * r) {
         return 0;
     }
-    let mut n: u32 = 0;
-    let mut i = y;
-    while i < e {
-        n = n + label_line(s, w, r, q, i, v, labels);
-        i = i + 1;
+    let mut n = 0;
+    for i in y..e {
+        n += label_line(s, w, r, q, i, v, labels);
     }
     n
 }
 
-// v at each point of the first plane that the plane at q lacks. Answers how many.
-pub fn label_plane(
-    s: &[u8],
-    w: usize,
-    h: usize,
-    r: usize,
-    q: usize,
-    v: u8,
-    labels: &mut [u8],
-) -> u32
-    requires { Frame w h r × (h * r ≤ q) × (q + h * r ≤ length s.now) × (length labels.old ≡ w * h) }
-    ensures { Labelled w h (lacking w h q s.now) v labels.old labels.new result }
+// v at each point of the first plane that the plane at q lacks, by blocks of sixteen rows. Answers how many.
+pub fn label_plane(s: &[u8], f: Frame, q: usize, v: u8, labels: &mut [u8]) -> u32
+    requires { (f.h * f.r ≤ q) × (q + f.h * f.r ≤ length s.now) × (length labels.old ≡ f.w * f.h) }
+    ensures { Labelled f.w f.h (lacking f.w f.h q s.now) v labels.old labels.new result }
 {
-    let mut n: u32 = 0;
-    let mut y: usize = 0;
-    while y < h {
-        let e = block_end(y, h);
-        n = n + label_rows(s, w, r, q, y, e, v, labels);
-        y = e;
+    let Frame { w, h, r, .. } = f;
+    let blocks = h.div_ceil(16);
+    let mut n = 0;
+    for k in 0..blocks {
+        let y = 16 * k;
+        n += label_rows(s, w, r, q, y, h.min(y + 16), v, labels);
     }
     n
 }

@@ -2,8 +2,10 @@
 use mathlib.Core.List.{List, [], ◌++◌, ◌∷◌, append_assoc, append-nil}
 use mathlib.Core.Path.{◌∙◌, ◌≡◌, ap}
 use Prim.Native.Nat.{ℕ}
-use Rattle.skeleton.specs.Decomposed.{answer_of}
-use Rattle.skeleton.specs.declared.Decomposed.{Decomposed}
+use Rattle.std.specs.Prelude.{Ok, Option, Result}
+use Rattle.refusals.specs.declared.Refusal.{Refusal}
+use Rattle.skeleton.specs.Decomposed.{answer_of, found}
+use Rattle.skeleton.specs.declared.Skeleton.{Skeleton}
 use Rattle.listing.specs.Printed.{answer_text, refusal_text, refused_word, skeleton_text}
 use Rattle.listing.specs.Text.{after, decimal, line, line_feed, map_text, space, spaced}
 use Rattle.listing.proofs.TextLaws.{spaced_more}
@@ -30,5 +32,9 @@ skeleton_pieces W H points largest m =
     ∙ append_assoc s t ((line_feed ∷ []) ++ map_text W H m)
 
 -- the text of an answer that is known
-pub answer_is : (W H : ℕ) (m : List ℕ) {a b : Decomposed} → a ≡ b → answer_text W H (answer_of a) m ≡ answer_text W H (answer_of b) m
-answer_is W H m e = ap (λ (a : Decomposed). answer_text W H (answer_of a) m) e
+pub answer_is : (W H : ℕ) (m : List ℕ) {a b : Result (Option Skeleton) Refusal} → a ≡ b → answer_text W H (answer_of a) m ≡ answer_text W H (answer_of b) m
+answer_is W H m e = ap (λ (a : Result (Option Skeleton) Refusal). answer_text W H (answer_of a) m) e
+
+pub found_is : (W H : ℕ) (m : List ℕ) {a : Result (Option Skeleton) Refusal} {f g : Option Skeleton} → a ≡ Ok f → f ≡ g
+    → answer_text W H (answer_of a) m ≡ answer_text W H (found g) m
+found_is W H m p q = answer_is W H m p ∙ ap (λ (s : Option Skeleton). answer_text W H (found s) m) q

@@ -1,23 +1,14 @@
 -- Text appended piece by piece.
-use mathlib.Core.List.{List, [], ◌++◌, ◌∷◌, append_assoc, append-nil}
+use mathlib.Core.List.{List, [], ◌++◌, append_assoc, append-nil}
 use mathlib.Core.Path.{◌∙◌, ◌≡◌, ap, refl, subst, sym}
-use Prim.Native.Nat.{◌+◌, ◌-◌, ◌<◌, ◌≤◌, ℕ}
-use native.Mathlib.Numerals.{add-one}
+use Prim.Native.Nat.{◌+◌, ◌-◌, ◌≤◌, ℕ}
 use native.Mathlib.Omega.{arith}
-use lib.ListN.{drop, get_or, length, length-append, length-set, set, take, take-append-drop}
-use lib.Seq.{drop-drop, drop-set-lt, take-suc, take-suc-set}
+use lib.ListN.{drop, length, length-append, length-drop, take, take-append-drop}
+use lib.Seq.{drop-drop, drop_at, length-take-le, take_at}
 use Rattle.listing.specs.Appended.{Appended, Listed, TextFits}
 
 pub appended-none : (at : ℕ) (out : List ℕ) → Appended [] at at out out
 appended-none at out = record { size = refl; ends = omega arith; text = sym (append-nil (take at out)); rest = refl }
-
-pub appended_byte : (b at : ℕ) (out : List ℕ) → TextFits (b ∷ []) at out → Appended (b ∷ []) at (at + 1) out (set out at b)
-appended_byte b at out r = record {
-  size = length-set out at b;
-  ends = omega arith;
-  text = ap (λ (n : ℕ). take n (set out at b)) (add-one at) ∙ take-suc-set out at b (omega arith);
-  rest = drop-set-lt (at + 1) out at b (omega arith);
-}
 
 pub appended_as : {s t : List ℕ} {at next : ℕ} {out out' : List ℕ} → s ≡ t → Appended s at next out out' → Appended t at next out out'
 appended_as {s} {t} {at} {next} {out} {out'} e = subst (λ (u : List ℕ). Appended u at next out out') e
@@ -53,19 +44,24 @@ module _ (s u : List ℕ) {t : List ℕ} (e : t ≡ s ++ u) where
     rest = b.rest ∙ drop_more mid next out' out (omega (arith, b.ends)) a.rest;
   }
 
--- ---- one byte of a text at a time
+-- ---- a text at once
 
-pub appended-start : (text : List ℕ) (at : ℕ) (out : List ℕ) → Appended (take 0 text) at (at + 0) out out
-appended-start text at out = let n : at ≡ at + 0 = omega arith in subst (λ (m : ℕ). Appended [] at m out out) n (appended-none at out)
-
-pub appended_turn : (text out₀ out : List ℕ) (at i : ℕ) → i < length text → TextFits text at out₀ → Appended (take i text) at (at + i) out₀ out
-    → Appended (take (i + 1) text) at (at + (i + 1)) out₀ (set out (at + i) (get_or text i 0))
-appended_turn text out₀ out at i l r a =
-    let b = get_or text i 0 in
-    let e : take (i + 1) text ≡ take i text ++ (b ∷ []) = ap (λ (n : ℕ). take n text) (add-one i) ∙ take-suc text i 0 l in
-    let n : at + i + 1 ≡ at + (i + 1) = omega arith in
-    subst (λ (m : ℕ). Appended (take (i + 1) text) at m out₀ (set out (at + i) b)) n
-    (appended_then (take i text) (b ∷ []) e a (appended_byte b (at + i) out (record { fits = omega (arith, a.size) })))
+-- ys, which is the text, over n bytes
+pub appended-over : (s ys : List ℕ) (at n : ℕ) (out : List ℕ) → ys ≡ s → n ≡ length s → TextFits s at out
+    → Appended s at (at + length s) out (take at out ++ (ys ++ drop n (drop at out)))
+appended-over s ys at n out e m r =
+    let rest = drop n (drop at out) in
+    let front : length (take at out) ≡ at = length-take-le at out (omega arith) in
+    let done : take at out ++ (ys ++ rest) ≡ (take at out ++ s) ++ rest =
+    ap (λ (l : List ℕ). take at out ++ (l ++ rest)) e ∙ sym (append_assoc (take at out) s rest) in
+    let long : length (take at out ++ s) ≡ at + length s = length-append (take at out) s ∙ ap (λ (i : ℕ). i + length s) front in
+    record {
+      size = omega (arith, ap length done, length-append (take at out ++ s) rest, long, length-drop n (drop at out), length-drop at out);
+      ends = refl;
+      text = ap (take (at + length s)) done ∙ take_at (take at out ++ s) rest (at + length s) long;
+      rest = ap (drop (at + length s)) done ∙ drop_at (take at out ++ s) rest (at + length s) long ∙ drop-drop n at out
+          ∙ ap (λ (i : ℕ). drop (at + i) out) m;
+    }
 
 -- ---- a text from the start of the buffer
 

@@ -1,18 +1,21 @@
 // A decomposition's answer as text, appended to a buffer.
 ghost use Rattle.std.specs.Prelude.{[], ◌∷◌, ◌≡◌, ◌*◌, length};
+ghost use Rattle.refusals.specs.Refusal.{number_of};
 ghost use Rattle.skeleton.specs.Decomposed.{answer_of};
 ghost use Rattle.listing.specs.Appended.{Appended, TextFits};
 ghost use Rattle.listing.specs.Printed.{answer_text, no_size, refusal_text, skeleton_text};
 ghost use Rattle.listing.specs.Text.{decimal, spaced};
 
 use crate::text;
-use skeleton::Decomposed;
+use refusals::Refusal;
+use skeleton::Skeleton;
 
 // A refusal.
-pub fn put_refusal(n: u8, at: usize, out: &mut [u8]) -> usize
-    requires { TextFits (refusal_text n) at out.old }
-    ensures { Appended (refusal_text n) at result out.old out.new }
+pub fn put_refusal(refusal: Refusal, at: usize, out: &mut [u8]) -> usize
+    requires { TextFits (refusal_text (number_of refusal)) at out.old }
+    ensures { Appended (refusal_text (number_of refusal)) at result out.old out.new }
 {
+    let n = u8::from(refusal);
     let word = text::put_bytes(b"refused", at, out);
     let number = text::put_word(1, n as u32, word, out);
     text::put(b'\n', number, out)
@@ -59,7 +62,7 @@ fn put_skeleton(
 
 // The answer, and the labels where it is no refusal.
 pub fn put_answer(
-    answer: Decomposed,
+    answer: Result<Option<Skeleton>, Refusal>,
     w: u32,
     h: u32,
     labels: &[u8],
@@ -70,10 +73,8 @@ pub fn put_answer(
     ensures { Appended (answer_text w h (answer_of answer) labels.now) at result out.old out.new }
 {
     match answer {
-        Decomposed::Refused(n) => put_refusal(n, at, out),
-        Decomposed::Blank => put_blank(w, h, labels, at, out),
-        Decomposed::Skeleton { points, largest } => {
-            put_skeleton(w, h, points, largest, labels, at, out)
-        }
+        Err(refusal) => put_refusal(refusal, at, out),
+        Ok(None) => put_blank(w, h, labels, at, out),
+        Ok(Some(found)) => put_skeleton(w, h, found.points, found.largest, labels, at, out),
     }
 }

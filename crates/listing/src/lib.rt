@@ -9,6 +9,8 @@ ghost use Rattle.morphology.specs.Image.{plane_bytes};
 ghost use Rattle.listing.specs.Appended.{Appended, Listed, TextFits};
 ghost use Rattle.listing.specs.Printed.{longest, outcome_text, printed, side, side_bytes, taken};
 
+use refusals::Refusal;
+
 // The largest side, a byte, and the bytes of the longest row.
 const SIDE: usize = 255;
 
@@ -70,7 +72,7 @@ fn list_bytes(input: &[u8], labels: &mut [u8], work: &mut [u8], out: &mut [u8]) 
     ensures { Appended (printed input.now) 0 result out.old out.new }
 {
     if input.len() < 6 {
-        return answer::put_refusal(3, 0, out);
+        return answer::put_refusal(Refusal::Lengths, 0, out);
     }
     let element = numbers::number(input, 2);
     list_image(input[0], input[1], element, &input[6..], labels, work, out)

@@ -17,12 +17,9 @@ pub fn put_bytes(text: &[u8], at: usize, out: &mut [u8]) -> usize
     requires { TextFits text.now at out.old }
     ensures { Appended text.now at result out.old out.new }
 {
-    let mut i: usize = 0;
-    while i < text.len() {
-        out[at + i] = text[i];
-        i = i + 1;
-    }
-    at + i
+    let end = at + text.len();
+    out[at..end].copy_from_slice(text);
+    end
 }
 
 // A number in decimal.
@@ -56,10 +53,8 @@ pub fn put_row(row: &[u8], at: usize, out: &mut [u8]) -> usize
     ensures { Appended (line (map decimal row.now)) at result out.old out.new }
 {
     let mut next = at;
-    let mut i: usize = 0;
-    while i < row.len() {
-        next = put_word(i, row[i] as u32, next, out);
-        i = i + 1;
+    for (i, label) in row.iter().enumerate() {
+        next = put_word(i, *label as u32, next, out);
     }
     put(b'\n', next, out)
 }
@@ -70,10 +65,8 @@ pub fn put_map(w: usize, h: usize, labels: &[u8], at: usize, out: &mut [u8]) -> 
     ensures { Appended (map_text w h labels.now) at result out.old out.new }
 {
     let mut next = at;
-    let mut y: usize = 0;
-    while y < h {
+    for y in 0..h {
         next = put_row(&labels[y * w..y * w + w], next, out);
-        y = y + 1;
     }
     next
 }

@@ -70,10 +70,9 @@ or_four false false false true c d = refl
 or_four false false false false c d = refl
 
 -- four rows at a time, in two parts
-pub seen_four : (s : List ℕ) (r y c v u i a b : ℕ) → i ≡ y * r + c → a ≡ bit_or (get_or s i 0) (get_or s (i + r) 0)
-    → b ≡ bit_or (get_or s (i + 2 * r) 0) (get_or s (i + 2 * r + r) 0) → Seen s r y c (bit_or v u) → Seen s r (y + 4) c (bit_or (bit_or v a) (bit_or u b))
-seen_four s r y c v u i a b e ea eb f k l =
-    ap₂ (λ (m n : ℕ). bit_of (bit_or (bit_or v m) (bit_or u n)) k) ea eb ∙ apart ∙ sym joined ∙ whole k l ∙ ap (λ (n : ℕ). column_ink s r n (8 * c + k)) four
+pub seen_four : (s : List ℕ) (r y e c v u i : ℕ) → e ≡ y + 4 → i ≡ y * r + c → Seen s r y c (bit_or v u)
+    → Seen s r e c (bit_or (bit_or v (bit_or (get_or s i 0) (get_or s (i + r) 0))) (bit_or u (bit_or (get_or s (i + 2 * r) 0) (get_or s (i + 3 * r) 0))))
+seen_four s r y e c v u i q p f k l = apart ∙ sym joined ∙ whole k l ∙ ap (λ (n : ℕ). column_ink s r n (8 * c + k)) four
   where
     x : ℕ → ℕ
     x j = get_or s (i + j * r) 0
@@ -81,7 +80,7 @@ seen_four s r y c v u i a b e ea eb f k l =
     at_row : (j n : ℕ) → n ≡ y + j → i + j * r ≡ n * r + c
     at_row j n z = let d = add-mul y j r in let t = ap (λ (n : ℕ). n * r) z in omega arith
 
-    four : y + 1 + 1 + 1 + 1 ≡ y + 4
+    four : y + 1 + 1 + 1 + 1 ≡ e
     four = omega arith
 
     whole : Seen s r (y + 1 + 1 + 1 + 1) c (bit_or (bit_or (bit_or (bit_or (bit_or v u) (x 0)) (x 1)) (x 2)) (x 3))
@@ -106,14 +105,12 @@ seen_four s r y c v u i a b e ea eb f k l =
         (or-bit (bit_or (bit_or v u) (x 0)) (x 1)
         ∙ ap (λ (t : Bool). t || bits (x 1)) (or-bit (bit_or v u) (x 0) ∙ ap (λ (t : Bool). t || bits (x 0)) (or-bit v u))))
 
-    apart : bits (bit_or (bit_or v (bit_or (get_or s i 0) (get_or s (i + r) 0))) (bit_or u (bit_or (get_or s (i + 2 * r) 0) (get_or s (i + 2 * r + r) 0))))
+    apart : bits (bit_or (bit_or v (bit_or (get_or s i 0) (get_or s (i + r) 0))) (bit_or u (bit_or (x 2) (x 3))))
         ≡ (((((bits v || bits u) || bits (x 0)) || bits (x 1)) || bits (x 2)) || bits (x 3))
     apart =
         let z : i ≡ i + 0 * r = omega arith in
         let o : i + r ≡ i + 1 * r = omega arith in
-        let t : i + 2 * r + r ≡ i + 3 * r = omega arith in
-        ap₂ (λ (m n : ℕ). bits (bit_or (bit_or v (bit_or (get_or s m 0) (get_or s n 0))) (bit_or u (bit_or (x 2) (get_or s (i + 2 * r + r) 0))))) z o
-        ∙ ap (λ (n : ℕ). bits (bit_or (bit_or v (bit_or (x 0) (x 1))) (bit_or u (bit_or (x 2) (get_or s n 0))))) t
+        ap₂ (λ (m n : ℕ). bits (bit_or (bit_or v (bit_or (get_or s m 0) (get_or s n 0))) (bit_or u (bit_or (x 2) (x 3))))) z o
         ∙ or-bit (bit_or v (bit_or (x 0) (x 1))) (bit_or u (bit_or (x 2) (x 3)))
         ∙ ap₂ ◌||◌ (or-bit v (bit_or (x 0) (x 1)) ∙ ap (λ (t : Bool). bits v || t) (or-bit (x 0) (x 1)))
         (or-bit u (bit_or (x 2) (x 3)) ∙ ap (λ (t : Bool). bits u || t) (or-bit (x 2) (x 3)))

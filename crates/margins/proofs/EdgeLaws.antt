@@ -33,18 +33,11 @@ use Rattle.raster.proofs.BandLaws.{rows-blank, zeros_in, zeros-out}
 use Rattle.raster.proofs.ByteLaws.{zero_bit}
 use Rattle.raster.proofs.PackLaws.{frame_row, row-image}
 use Rattle.raster.proofs.RowLaws.{row_in, row_bit-at}
-use Rattle.elements.specs.Measures.{measure}
+use Rattle.elements.specs.Measures.{Reached, measure}
 use Rattle.margins.specs.Columns.{column_ink, columns_ink}
 use Rattle.margins.proofs.ColumnLaws.{byte-bits, span_in, span-out}
 
--- how far an element goes to the four sides
-pub record Extents (B : List Point) (left right up down : ℕ) : Type 0 where
-  pub leftward : left ≡ extent (measure true false) B
-  pub rightward : right ≡ extent (measure true true) B
-  pub upward : up ≡ extent (measure false false) B
-  pub downward : down ≡ extent (measure false true) B
-
--- column x of W and row y of H have room for it
+-- column x of W and row y of H have room for an element that goes so far to the four sides
 pub record HasRoom (W H left right up down x y : ℕ) : Type 0 where
   pub before : left ≤ x
   pub after : x + right < W
@@ -62,7 +55,7 @@ side_in : (W lo hi x : ℕ) → lo ≤ x → x + hi < W → T (fits W (1 * lo) (
 side_in W lo hi x l h =
     and_in (leb (1 * lo) x) (ltb (x + 1 * hi) W) (le→leb (1 * lo) x (omega arith)) (lt→ltb (x + 1 * hi) W (omega arith))
 
-module _ {B : List Point} {left right up down : ℕ} (e : Extents B left right up down) (W H x y : ℕ) where
+module _ {B : List Point} {left right up down : ℕ} (e : Reached left right up down B) (W H x y : ℕ) where
   fx : Bool
   fx = fits W (1 * extent (measure true false) B) (1 * extent (measure true true) B) (pos x)
 
@@ -90,7 +83,7 @@ module _ {B : List Point} {left right up down : ℕ} (e : Extents B left right u
       (omega (arith, e.rightward, c.after)))
       (side_in H (extent (measure false false) B) (extent (measure false true) B) y (omega (arith, e.upward, c.above)) (omega (arith, e.downward, c.below)))
 
-module _ {B : List Point} {left right up down : ℕ} (ob : Memᴰ origin B) (e : Extents B left right up down) (W H : ℕ) (X : Point → Bool)
+module _ {B : List Point} {left right up down : ℕ} (ob : Memᴰ origin B) (e : Reached left right up down B) (W H : ℕ) (X : Point → Bool)
     (on : OnFrame W H X) where
   -- a point without room falls off
   pub falls-near : (x y : ℕ) → T (X (at (pos x) (pos y))) → (HasRoom W H left right up down x y → ⊥) → T (falls_off W H B X)
@@ -142,7 +135,12 @@ pub record EdgePlane (w h r e left right up down : ℕ) (s : List ℕ) : Type 0 
   pub bytes : (i : ℕ) → get_or s i 0 < 256
   pub clean : T (is_clean w h s)
   pub centre : T (bit e 12)
-  pub reach : Extents (offsets e) left right up down
+  pub reach : Reached left right up down (offsets e)
+
+pub edge_plane : {w h r e left right up down : ℕ} {s : List ℕ} → Frame w h r → (h * r ≤ length s) × T (bit e 12) × T (is_clean w h s)
+    → ((i : ℕ) → get_or s i 0 < 256) → Reached left right up down (offsets e)
+    → EdgePlane w h r e left right up down s
+edge_plane f q b x = record { frame = f; size = q.0; bytes = b; clean = q.2; centre = q.1; reach = x }
 
 module _ {w h r e left right up down : ℕ} {s : List ℕ} (c : EdgePlane w h r e left right up down s) where
   abbrev X : Point → Bool

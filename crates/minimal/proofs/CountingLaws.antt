@@ -205,25 +205,19 @@ module _ (W H : ℕ) (B : List Point) (m : List ℕ) where
             omega (arith, counting-at (i + k - a) l, cover-few n i (place W (i + k - a)), t.few);
       }
 
-      pub counting_next : (c' : List ℕ) → CoverMoved true (λ x. eqb (get_or m i 0) (n + 1) && hits (below (W * H) (ink_at W H plane)) i a x) c c'
+      pub counting_next : get_or m i 0 ≡ n + 1 → (c' : List ℕ) → CoverMoved true (hits (below (W * H) (ink_at W H plane)) i a) c c'
           → Counting W H B m n (i + 1) c'
-      counting_next c' v =
+      counting_next e c' v =
           ext_get_or 0 c' (raster W H (cover_to W H B m n (i + 1))) (v.size ∙ counting-length ∙ sym (length-raster W H (cover_to W H B m n (i + 1)))) (λ x l.
           let lc : x < length c = subst (λ (k : ℕ). x < k) v.size l in
           let hx : x < W * H = subst (λ (k : ℕ). x < k) counting-length lc in
-          v.places x lc ∙ by x hx (ℕ_discrete (get_or m i 0) (n + 1)) ∙ sym (get_or-place W H (cover_to W H B m n (i + 1)) x hx))
+          v.places x lc ∙ by x hx ∙ sym (get_or-place W H (cover_to W H B m n (i + 1)) x hx))
         where
           f : ℕ → Bool
           f = below (W * H) (ink_at W H plane)
 
-          by : (x : ℕ) → x < W * H → Dec (get_or m i 0 ≡ n + 1)
-              → get_or c x 0 + digit (eqb (get_or m i 0) (n + 1) && hits f i a x) ≡ cover_to W H B m n (i + 1) (place W x)
-          by x hx (yes e) =
-              ap₂ (λ (k : ℕ) (b : Bool). k + digit (b && hits f i a x)) (counting-at x hx) (eq-eqb (get_or m i 0) (n + 1) e)
-              ∙ ap (λ (b : Bool). cover_to W H B m n i (place W x) + digit b)
+          by : (x : ℕ) → x < W * H → get_or c x 0 + digit (hits f i a x) ≡ cover_to W H B m n (i + 1) (place W x)
+          by x hx =
+              ap₂ (λ (k : ℕ) (b : Bool). k + digit b) (counting-at x hx)
               (shape-hits W H r B n a plane s i x (stays e) ∙ sym (covers-dilate W H B m i n (place W x) (e ∙ add-one n)))
               ∙ sym (cover_next n i h e (place W x))
-          by x hx (no e) =
-              let z : get_or c x 0 + 0 ≡ get_or c x 0 = omega arith in
-              ap (λ (b : Bool). get_or c x 0 + digit (b && hits f i a x)) (ne_eqb (get_or m i 0) (n + 1) e) ∙ z ∙ counting-at x hx
-              ∙ sym (cover_skip n i e (place W x))

@@ -10,8 +10,8 @@ use borrow.Author.Tests.{eq-eqb}
 use lib.Arith.{digits_div, digits_lt, digits_mod}
 use lib.Dec.{T, eqb, eqb→eq}
 use lib.IntN.{pos}
-use lib.ListN.{drop, get_or, get_or-replicate, length, length-append, length-drop, length-replicate, length-set, replicate, set, take}
-use lib.Seq.{drop_at, drop-drop, drop-set-lt, ext_get_or, get_or-set_other, get_or-set_same, length-take-le, take_at, take-set-lt}
+use lib.ListN.{drop, get_or, get_or-replicate, length, length-append, length-drop, length-replicate, length-set, replicate, set}
+use lib.Seq.{drop_at, drop-drop, drop-set-lt, ext_get_or, get_or-set_other, get_or-set_same, take_at, take-set-lt}
 use Rattle.morphology.specs.Image.{from_bits, pack, plane_bytes, stride}
 use Rattle.morphology.specs.Lists.{tabulate}
 use Rattle.morphology.specs.Point.{at, same_integer, same_point}
@@ -42,15 +42,6 @@ byte_small k = omega (arith, div-le_self 128 (2 ^ k))
 single-at : (W a u v : ℕ) → single W a (at (pos u) (pos v)) ≡ (eqb u (a % W) && eqb v (a / W))
 unfolding same_point same_integer
 single-at W a u v = refl
-
--- ---- an empty first plane
-
-pub emptied : (p : ℕ) (work ys : List ℕ) → p ≤ length work → ys ≡ replicate (length (take p work)) 0 → (ys ≡ replicate p 0)
-    × (length (ys ++ drop p work) ≡ length work)
-emptied p work ys h e =
-    let z : ys ≡ replicate p 0 = e ∙ ap (λ (n : ℕ). replicate n 0) (length-take-le p work h) in
-    let l : length ys ≡ p = ap length z ∙ length-replicate {A = ℕ} p 0 in
-    (z, length-append ys (drop p work) ∙ omega (arith, l, length-drop p work, h))
 
 -- ---- one pixel of a plane
 
@@ -124,17 +115,15 @@ module _ (W H a : ℕ) (hw : 1 ≤ W) (ha : a < W * H) where
       (subst (λ (n : ℕ). d < n) (sym q) (subst (λ (n : ℕ). n < plane_bytes W H) (sym t) mark-inside), t)
 
   -- the first plane of work, emptied and marked
-  pub mark-first : (p d v : ℕ) (work ys : List ℕ) → p ≡ plane_bytes W H → p ≤ length work → ys ≡ replicate (length (take p work)) 0
+  pub mark-first : (p d v : ℕ) (work ys : List ℕ) → p ≡ plane_bytes W H → p ≤ length work → ys ≡ replicate p 0
       → d ≡ a / W * stride W + a % W / 8 → v ≡ 128 / 2 ^ (a % W % 8)
       → First W H p (single W a) work (set (ys ++ drop p work) d v)
-  mark-first p d v work ys q h e ed ev =
-      let k = emptied p work ys h e in
-      let z = k.0 in
+  mark-first p d v work ys q h z ed ev =
       let l : length ys ≡ p = ap length z ∙ length-replicate {A = ℕ} p 0 in
       let hd : d < p = subst (λ (n : ℕ). d < n) (sym q) (subst (λ (n : ℕ). n < plane_bytes W H) (sym ed) mark-inside) in
       let two : 2 * p ≡ p + p = omega arith in
       record {
-        size = length-set (ys ++ drop p work) d v ∙ k.1;
+        size = length-set (ys ++ drop p work) d v ∙ length-append ys (drop p work) ∙ omega (arith, l, length-drop p work);
         first = take-set-lt p (ys ++ drop p work) d v hd ∙ ap (λ (s : List ℕ). set s d v) (take_at ys (drop p work) p l ∙ z ∙ ap (λ (n : ℕ). replicate n 0) q)
             ∙ ap₂ (λ (i j : ℕ). set (replicate (plane_bytes W H) 0) i j) ed ev ∙ mark-pack;
         rest = drop-set-lt (2 * p) (ys ++ drop p work) d v (omega arith) ∙ ap (λ (n : ℕ). drop n (ys ++ drop p work)) two

@@ -2,7 +2,7 @@
 use mathlib.Core.Bool.{Bool, ◌&&◌, false, true}
 use mathlib.Core.List.{List}
 use mathlib.Core.Logic.{◌≢◌}
-use mathlib.Core.Path.{◌∙◌, ◌≡◌, ap, ap₂, refl, subst, sym}
+use mathlib.Core.Path.{◌∙◌, ◌≡◌, ap, ap₂, fun_ext, refl, subst, sym}
 use Prim.Native.Nat.{◌+◌, ◌-◌, ◌<◌, ◌≤◌, ℕ}
 use native.Mathlib.Decide.{dec_lt, ℕ_discrete}
 use native.Mathlib.Omega.{arith}
@@ -10,9 +10,10 @@ use borrow.Author.Tests.{le-leb, le-ltb, lt-leb, lt-ltb}
 use lib.Dec.{T, leb, leb→le, le→leb, ltb, ltb→lt, lt→ltb}
 use lib.ListN.{get_or, length, length-set, set}
 use lib.Seq.{get_or-set_other, get_or-set_same}
+use Rattle.std.proofs.lemmas.List.{set-get_or}
 use Rattle.morphology.proofs.RefusalLaws.{false_of}
 use Rattle.morphology.proofs.TestLaws.{and_in, and_l, and_r}
-use Rattle.minimal.specs.Moves.{Free, CoverMoved, Open, Tells, Twice, Within, below, counted, hits}
+use Rattle.minimal.specs.Moves.{Task, CoverMoved, Done, Free, Open, Ready, Slot, Tells, Twice, Within, after, below, count, counted, hits, passes, test}
 
 -- ---- the first of f
 
@@ -56,35 +57,16 @@ pub moved_none : (up : Bool) (f : ℕ → Bool) (at a : ℕ) (c : List ℕ) → 
 moved_none up f at a c e =
     record { size = refl; places = λ x l. sym (ap (λ (b : Bool). counted up b (get_or c x 0)) (hits-none f at a x e) ∙ counted_none up (get_or c x 0)) }
 
-pub moved-start : (up : Bool) (f : ℕ → Bool) (at a : ℕ) (c : List ℕ) → CoverMoved up (hits (below 0 f) at a) c c
-moved-start up f at a c = moved_none up (below 0 f) at a c (λ k. below_out 0 f k (omega arith))
-
-pub twice-start : (f : ℕ → Bool) (at a : ℕ) (c : List ℕ) → Twice (below 0 f) at a c
-twice-start f at a c k t = absurd (omega (arith, below_lt 0 f k t))
-
 -- ---- one pixel
-
--- its counter
-pub record Slot (up : Bool) (at a : ℕ) (c : List ℕ) : Type 0 where
-  pub lower : a ≤ at
-  pub inside : at - a < length c
-  pub free : Free up (get_or c (at - a) 0)
 
 pub pixel-within : (ink : Bool) (at a n : ℕ) → ink ≡ true → Within (below 1 (λ _. ink)) at a n → (a ≤ at) × (at - a < n)
 pixel-within ink at a n e w =
     let r = w 0 (below-T 1 (λ _. ink) 0 (omega arith) (subst T (sym e) tt)) in
     (omega (arith, r.0), omega (arith, r.0, r.1))
 
-pub pixel_slot : (up ink : Bool) (at a : ℕ) (c : List ℕ) → ink ≡ true → Open up (below 1 (λ _. ink)) at a c → Slot up at a c
-pixel_slot up ink at a c e w =
-    let t = below-T 1 (λ _. ink) 0 (omega arith) (subst T (sym e) tt) in
-    let r = pixel-within ink at a (length c) e w.within in
-    let z : at + 0 - a ≡ at - a = omega arith in
-    record { lower = r.0; inside = r.1; free = subst (λ (x : ℕ). Free up (get_or c x 0)) z (w.free 0 t) }
-
-pub pixel-moved : (up ink : Bool) (at a v : ℕ) (c : List ℕ) → ink ≡ true → Slot up at a c → v ≡ counted up true (get_or c (at - a) 0)
+pixel-moved : (up ink : Bool) (at a v : ℕ) (c : List ℕ) → ink ≡ true → a ≤ at → at - a < length c → v ≡ counted up true (get_or c (at - a) 0)
     → CoverMoved up (hits (below 1 (λ _. ink)) at a) c (set c (at - a) v)
-pixel-moved up ink at a v c e s q = record { size = length-set c (at - a) v; places = λ x l. by x (ℕ_discrete x (at - a)) }
+pixel-moved up ink at a v c e lower inside q = record { size = length-set c (at - a) v; places = λ x l. by x (ℕ_discrete x (at - a)) }
   where
     f : ℕ → Bool
     f = below 1 (λ _. ink)
@@ -99,16 +81,13 @@ pixel-moved up ink at a v c e s q = record { size = length-set c (at - a) v; pla
 
     by : (x : ℕ) → Dec (x ≡ at - a) → get_or (set c (at - a) v) x 0 ≡ counted up (hits f at a x) (get_or c x 0)
     by x (yes z) =
-        let h : x + a - at ≡ 0 = omega (arith, s.lower) in
-        ap (λ (j : ℕ). get_or (set c (at - a) v) j 0) z ∙ get_or-set_same c (at - a) v 0 s.inside ∙ q
+        let h : x + a - at ≡ 0 = omega (arith, lower) in
+        ap (λ (j : ℕ). get_or (set c (at - a) v) j 0) z ∙ get_or-set_same c (at - a) v 0 inside ∙ q
         ∙ ap₂ (λ (b : Bool) (j : ℕ). counted up b (get_or c j 0))
-        (sym (hits_in f at a x (omega (arith, s.lower)) ∙ ap f h ∙ below_in 1 (λ _. ink) 0 (omega arith) ∙ e)) (sym z)
+        (sym (hits_in f at a x (omega (arith, lower)) ∙ ap f h ∙ below_in 1 (λ _. ink) 0 (omega arith) ∙ e)) (sym z)
     by x (no z) =
         get_or-set_other c (at - a) x v 0 z
         ∙ sym (ap (λ (b : Bool). counted up b (get_or c x 0)) (far x z (dec_lt (x + a) at)) ∙ counted_none up (get_or c x 0))
-
-pub pixel_still : (up ink : Bool) (at a : ℕ) (c : List ℕ) → ink ≡ false → CoverMoved up (hits (below 1 (λ _. ink)) at a) c c
-pixel_still up ink at a c e = moved_none up (below 1 (λ _. ink)) at a c (λ k. false_of (below 1 (λ _. ink) k) (λ t. subst T e (and_r (ltb k 1) ink t)))
 
 -- ---- g is F from o on, for m
 
@@ -208,15 +187,6 @@ module _ (F g : ℕ → Bool) (at o m a : ℕ) (e : (k : ℕ) → k < m → g k 
 pub pixel_of : (F : ℕ → Bool) (o : ℕ) (ink : Bool) → ink ≡ F o → (k : ℕ) → k < 1 → ink ≡ F (o + k)
 pixel_of F o ink e k h = let z : o ≡ o + k = omega arith in e ∙ ap F z
 
-pub moved-end : (up : Bool) (F : ℕ → Bool) (at a o N : ℕ) (c u : List ℕ) → o ≡ N → CoverMoved up (hits (below o F) at a) c u → CoverMoved up (hits (below N F) at a) c u
-moved-end up F at a o N c u e p = subst (λ (n : ℕ). CoverMoved up (hits (below n F) at a) c u) e p
-
-pub moved_as : (up : Bool) (F G : ℕ → Bool) (at a n : ℕ) (c u : List ℕ) → F ≡ G → CoverMoved up (hits (below n F) at a) c u → CoverMoved up (hits (below n G) at a) c u
-moved_as up F G at a n c u e p = subst (λ (f : ℕ → Bool). CoverMoved up (hits (below n f) at a) c u) e p
-
-pub twice-end : (F : ℕ → Bool) (at a o N : ℕ) (c : List ℕ) → o ≡ N → Twice (below o F) at a c → Twice (below N F) at a c
-twice-end F at a o N c e p = subst (λ (n : ℕ). Twice (below n F) at a c) e p
-
 pub none_below : (n : ℕ) (F : ℕ → Bool) → ((k : ℕ) → k < n → F k ≡ false) → (k : ℕ) → below n F k ≡ false
 none_below n F e k = false_of (below n F k) (λ t. subst T (e k (below_lt n F k t)) (and_r (ltb k n) (F k) t))
 
@@ -246,16 +216,60 @@ pixel-tells ink at a c e = record {
       subst T t (le→leb 2 (get_or c (at - a) 0) (subst (λ (x : ℕ). 2 ≤ get_or c x 0) z h));
 }
 
-pub pixel-passes : (ink : Bool) (at a : ℕ) (c : List ℕ) → ink ≡ false → Tells true (Twice (below 1 (λ _. ink)) at a c)
-pixel-passes ink at a c e = tells-yes (λ k u. absurd (subst T e (and_r (ltb k 1) ink u)))
+-- ---- what is done at each counter
 
-pub twice-none : (F : ℕ → Bool) (at a : ℕ) (c : List ℕ) → ((k : ℕ) → F k ≡ false) → Twice F at a c
-twice-none F at a c e k t = absurd (subst T (e k) t)
+-- the counter of one pixel
+pub pixel_slot : (k : Task) (ink : Bool) (at a : ℕ) (c : List ℕ) → ink ≡ true → Ready k (below 1 (λ _. ink)) at a c → Slot k at a c
+pixel_slot (count up) ink at a c e w =
+    let t = below-T 1 (λ _. ink) 0 (omega arith) (subst T (sym e) tt) in
+    let r = pixel-within ink at a (length c) e w.within in
+    let z : at + 0 - a ≡ at - a = omega arith in
+    record { lower = r.0; inside = r.1; takes = subst (λ (x : ℕ). Free up (get_or c x 0)) z (w.free 0 t) }
+pixel_slot test ink at a c e w =
+    let r = pixel-within ink at a (length c) e w in
+    record { lower = r.0; inside = r.1; takes = tt }
 
--- ---- moved where a test holds
+pub pixel-done : (k : Task) (ink : Bool) (at a v : ℕ) (c : List ℕ) (t : Bool) → ink ≡ true → Slot k at a c
+    → (v ≡ after k (get_or c (at - a) 0)) × (t ≡ passes k (get_or c (at - a) 0)) → Done k (below 1 (λ _. ink)) at a c (set c (at - a) v) t
+pixel-done (count up) ink at a v c t e s q = (q.1, pixel-moved up ink at a v c e s.lower s.inside q.0)
+pixel-done test ink at a v c t e s q = (
+  ap (set c (at - a)) q.0 ∙ set-get_or c (at - a) 0,
+  subst (λ (b : Bool). Tells b (Twice (below 1 (λ _. ink)) at a c)) (sym q.1) (pixel-tells ink at a c e),
+)
 
-pub moved_when : (up b : Bool) (p : ℕ → Bool) (c u : List ℕ) → b ≡ true → CoverMoved up p c u → CoverMoved up (λ x. b && p x) c u
-moved_when up b p c u e m = record { size = m.size; places = λ x l. m.places x l ∙ ap (λ (t : Bool). counted up (t && p x) (get_or c x 0)) (sym e) }
+pub none-done : (k : Task) (f : ℕ → Bool) (at a : ℕ) (c : List ℕ) → ((j : ℕ) → f j ≡ false) → Done k f at a c c true
+none-done (count up) f at a c e = (refl, moved_none up f at a c e)
+none-done test f at a c e = (refl, tells-yes (λ j t. absurd (subst T (e j) t)))
 
-pub moved-unless : (up b : Bool) (p : ℕ → Bool) (c : List ℕ) → b ≡ false → CoverMoved up (λ x. b && p x) c c
-moved-unless up b p c e = record { size = refl; places = λ x l. sym (ap (λ (t : Bool). counted up (t && p x) (get_or c x 0)) e ∙ counted_none up (get_or c x 0)) }
+-- as far as o, and then g, which is F from o on, for m
+module _ (F g : ℕ → Bool) (at o m a : ℕ) (e : (j : ℕ) → j < m → g j ≡ F (o + j)) where
+  pub part_ready : (k : Task) (N : ℕ) (c u : List ℕ) (t : Bool) → o + m ≤ N → Ready k (below N F) at a c → Done k (below o F) at a c u t
+      → Ready k (below m g) (at + o) a u
+  part_ready (count up) N c u t h w p = open-part F g at o m a e up N c u h w p.1
+  part_ready test N c u t h w p = within-part F g at o m a e N (length u) h (subst (λ (l : List ℕ). Within (below N F) at a (length l)) (sym p.0) w)
+
+  pub done_more : (k : Task) (c u v : List ℕ) (s t : Bool) → Done k (below o F) at a c u s → Done k (below m g) (at + o) a u v t
+      → Done k (below (o + m) F) at a c v (s && t)
+  done_more (count up) c u v s t p q = (ap₂ (λ (x y : Bool). x && y) p.0 q.0, moved_more F g at o m a e up c u v p.1 q.1)
+  done_more test c u v s t p q = (
+    q.0 ∙ p.0,
+    tells-and s t p.1 (subst (λ (l : List ℕ). Tells t (Twice (below m g) (at + o) a l)) p.0 q.1) (twice_more F g at o m a e c)
+        (twice-first F g at o m a e c) (twice-part F g at o m a e (o + m) c (omega arith)),
+  )
+
+  -- where g passes, and where it does not
+  pub done_next : (k : Task) (N : ℕ) (c u v : List ℕ) (t : Bool) → o + m ≡ N → Done k (below o F) at a c u true → Done k (below m g) (at + o) a u v t
+      → t ≡ true → Done k (below N F) at a c v true
+  done_next k N c u v t z p q f =
+      subst (λ (n : ℕ). Done k (below n F) at a c v true) z (subst (Done k (below (o + m) F) at a c v) f (done_more k c u v true t p q))
+
+  pub done-fails : (k : Task) (N : ℕ) (c u v : List ℕ) (t : Bool) → o + m ≤ N → Done k (below o F) at a c u true → Done k (below m g) (at + o) a u v t
+      → t ≡ false → Done k (below N F) at a c v false
+  done-fails (count up) N c u v t h p q f = absurd (subst T (sym q.0 ∙ f) tt)
+  done-fails test N c u v t h p q f = (
+    q.0 ∙ p.0,
+    tells-no (λ w. q.1.no f (subst (λ (l : List ℕ). Twice (below m g) (at + o) a l) (sym p.0) (twice-part F g at o m a e N c h w))),
+  )
+
+pub done_as : (k : Task) (f g : ℕ → Bool) (at a : ℕ) (c u : List ℕ) (t : Bool) → ((j : ℕ) → f j ≡ g j) → Done k f at a c u t → Done k g at a c u t
+done_as k f g at a c u t e p = subst (λ (f : ℕ → Bool). Done k f at a c u t) (fun_ext e) p

@@ -13,19 +13,6 @@ use Rattle.morphology.specs.Lists.{greatest, some_of}
 use Rattle.morphology.proofs.RefusalLaws.{or-out-false}
 use Rattle.minimal.specs.Sizes.{Without}
 
-pub without-none : (v i : ℕ) (m : List ℕ) → Without v i i m
-without-none v i m j lo hi = absurd (omega arith)
-
-pub without_both : (v i e k : ℕ) (m : List ℕ) → Without v i e m → Without v e k m → Without v i k m
-without_both v i e k m p q j lo hi = by (dec_lt j e)
-  where
-    by : Dec (j < e) → get_or m j 0 ≡ v → ⊥
-    by (yes h) = p j lo h
-    by (no h) = q j (omega arith) hi
-
-pub without_one : (v i : ℕ) (m : List ℕ) → (get_or m i 0 ≡ v → ⊥) → Without v i (i + 1) m
-without_one v i m f j lo hi q = let e : j ≡ i = omega arith in f (ap (λ (k : ℕ). get_or m k 0) (sym e) ∙ q)
-
 unseen : (v : ℕ) (l : List ℕ) (j : ℕ) → some_of (λ b. eqb b v) l ≡ false → j < length l → get_or l j 0 ≡ v → ⊥
 unseen v [] j e h q = omega arith
 unseen v (b ∷ l) zero e h q = subst T (or-out-false (eqb b v) (some_of (λ b. eqb b v) l) e).0 (subst T (sym (eq-eqb b v q)) tt)

@@ -8,7 +8,7 @@ use Prim.Native.Nat.{◌%◌, ◌*◌, ◌+◌, ◌-◌, ◌/◌, ◌<◌, ◌�
 use native.Mathlib.Nat.{div-lt_iff_lt-mul, mod-lt, mul_comm}
 use native.Mathlib.Omega.{arith}
 use lib.Dec.{T, leb, le→leb, ltb, lt→ltb}
-use lib.ListN.{drop, get_or, length, take}
+use lib.ListN.{get_or, length, take}
 use lib.Seq.{get_or-take, length-take-le}
 use Rattle.morphology.specs.Element.{offsets}
 use Rattle.morphology.specs.Falls.{falls_off}
@@ -25,21 +25,28 @@ use Rattle.morphology.proofs.PointLaws.{unit}
 use Rattle.morphology.proofs.ReconstructLaws.{dilated-suc, times_mono}
 use Rattle.morphology.proofs.TestLaws.{T_ext, and_in, and_l, and_r}
 use Rattle.raster.proofs.PackLaws.{frame-bytes}
-use Rattle.iteration.specs.Steps.{First, Sheet}
+use Rattle.iteration.specs.Steps.{First}
+use Rattle.raster.specs.Frames.{Sheet}
 use Rattle.iteration.proofs.StepLaws.{first-clean, first-image, sheet-bytes}
-use Rattle.minimal.specs.Bands.{InBand, Bounds, ink_at}
+use Rattle.minimal.specs.Bands.{Bounds, CoverAt, ink_at}
 use Rattle.minimal.specs.declared.bands.Band.{Band}
 use Rattle.minimal.specs.Covers.{Stays, single, spread}
 use Rattle.minimal.specs.Moves.{Within, below, hits}
-use Rattle.minimal.specs.Sizes.{WalkBegun, Left, Shape}
+use Rattle.minimal.specs.Sizes.{AllFit, WalkBegun, Left, Shape}
 use Rattle.minimal.proofs.CoverCountLaws.{spread_on}
 use Rattle.minimal.proofs.MoveLaws.{below-T}
 use Rattle.minimal.proofs.SpreadLaws.{spread_goes, spread-moved}
 
-module _ (W H r : ℕ) (B : List Point) (n a : ℕ) (plane : List ℕ) (s : Shape W H r B n a plane) where
-  pub shape-banded : (g : Band) → Bounds H r g plane → InBand W H r g plane
-  shape-banded g b = record { frame = s.frame; bytes = s.bytes; clean = s.clean; bounds = b }
+-- a place that is gone to with a shape and its band
+pub cover_at : {W H r n a i : ℕ} {B : List Point} {m plane : List ℕ} {g : Band} → Shape W H r B n a plane → AllFit W H B m → Bounds H r g plane
+    → i < length m → CoverAt W H r g i m plane
+cover_at s t b h = record {
+  banded = record { frame = s.frame; bytes = s.bytes; clean = s.clean; bounds = b };
+  place = h;
+  near = omega (arith, h, t.places, t.few);
+}
 
+module _ (W H r : ℕ) (B : List Point) (n a : ℕ) (plane : List ℕ) (s : Shape W H r B n a plane) where
   -- ---- moved to a point
 
   ink-spread : (k : ℕ) → T (ink_at W H plane k) → T (spread W B n a (place W k))
@@ -103,9 +110,9 @@ module _ {W H r a : ℕ} {B : List Point} {work : List ℕ} (n : ℕ) (h : n ≢
   reach-falls = on-falls W H B (image_set W H work) (subst (OnFrame W H) (sym reach-set) (spread_on W H B n a stay))
 
   -- and where nothing does, nothing is clipped
-  pub reach_shape : {p : ℕ} {u : List ℕ} → Sheet W H r p → falls_off W H B (image_set W H work) ≡ false
-      → First W H p (clip W H (dilate B (image_set W H work))) work u → Shape W H r B n a u
-  reach_shape d e f =
+  pub reach_shape : {p : ℕ} {u : List ℕ} → Sheet W H r p → First W H p (clip W H (dilate B (image_set W H work))) work u
+      → Shape W H r B n a u
+  reach_shape d f =
       let X = image_set W H work in
       let q = sheet-bytes d in
       let on = clip_on W H (dilate B X) in
@@ -113,7 +120,7 @@ module _ {W H r a : ℕ} {B : List Point} {work : List ℕ} (n : ℕ) (h : n ≢
         frame = s.frame;
         bytes = omega (arith, s.bytes, f.size);
         clean = first-clean q on f;
-        set = first-image q on f ∙ falls-clip W H B X (image_on W H work) e ∙ reach-set;
+        set = first-image q on f ∙ falls-clip W H B X (image_on W H work) reach-falls ∙ reach-set;
         stays = stay;
       }
 
@@ -149,7 +156,3 @@ module _ {W H r p e a top : ℕ} {m work : List ℕ} (b : WalkBegun W H r p e a 
         set = first-image q on f ∙ sym (dilate-zero (offsets e) (single W a));
         stays = stay;
       }
-
-  -- and the rest of work is as it was
-  pub begun-left : {u : List ℕ} → First W H (H * r) (single W a) work u → Left p work u
-  begun-left {u} f = record { size = f.size; rest = subst (λ (k : ℕ). drop (2 * k) u ≡ drop (2 * k) work) (sym b.sheet.plane) f.rest }

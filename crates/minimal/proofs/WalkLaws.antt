@@ -8,7 +8,7 @@ use native.Mathlib.Nat.{add-zero}
 use native.Mathlib.Numerals.{add-one}
 use native.Mathlib.Omega.{arith}
 use borrow.Author.Tests.{eq-eqb, ne_eqb}
-use lib.Dec.{T, T_not, eqb, eqb→eq, leb, leb→le, le→leb}
+use lib.Dec.{T, T_not, eqb, leb, leb→le, le→leb}
 use lib.ListN.{get_or, length, length-set, set}
 use lib.Seq.{ext_get_or}
 use Rattle.morphology.specs.Labels.{place}
@@ -21,11 +21,11 @@ use Rattle.morphology.proofs.RefusalLaws.{false_of}
 use Rattle.morphology.proofs.TestLaws.{T_ext, all_in, all-out, and_l, and_r, decide, or_l, or-out, or_r}
 use Rattle.minimal.specs.Bands.{ink_at}
 use Rattle.minimal.specs.Covers.{Stays, counts, spread}
-use Rattle.minimal.specs.Moves.{CoverMoved, Open, Twice, Within, below, hits}
+use Rattle.minimal.specs.Moves.{Twice, Within, below, hits}
 use Rattle.minimal.specs.Sizes.{Shape, AllFit, Without}
 use Rattle.minimal.specs.Walks.{StepDone, Walked}
 use Rattle.minimal.proofs.CoverCountLaws.{all_twice, counters-drop, counts-length, drop_turn, minimal-start, minimal_turn, size-start, size_turn}
-use Rattle.minimal.proofs.MoveLaws.{hits_at, moved-unless, moved_when, tells-no, tells-yes}
+use Rattle.minimal.proofs.MoveLaws.{hits_at}
 use Rattle.minimal.proofs.SizeLaws.{shape-hits, shape-within}
 
 -- a map with fewer points
@@ -98,8 +98,8 @@ module _ (W H r : ℕ) (B : List Point) (n a : ℕ) (plane : List ℕ) (s : Shap
       pub counters : c' ≡ counts W H B m'
       pub size : length m' ≡ length m
 
-    pub step_next : (m' c' : List ℕ) → StepDone W H n a i plane m c m' c' → Next m' c'
-    step_next m' c' d = go d.gone refl
+    pub step_next : get_or m i 0 ≡ n + 1 → (m' c' : List ℕ) → StepDone W H a i plane m c m' c' → Next m' c'
+    step_next y m' c' d = go d.gone refl
       where
         at : (x : ℕ) → x < W * H → get_or c' x 0 ≡ get_or c x 0 - cond (d.gone && hits moved i a x) 1 0
         at x l = d.counters.places x (subst (λ (k : ℕ). x < k) (sym length-counts) l)
@@ -109,14 +109,13 @@ module _ (W H r : ℕ) (B : List Point) (n a : ℕ) (plane : List ℕ) (s : Shap
 
         go : (b : Bool) → d.gone ≡ b → Next m' c'
         go true e =
-            let y = d.tells.yes e in
-            let v : get_or m i 0 ≡ suc n = y.0 ∙ add-one n in
+            let v : get_or m i 0 ≡ suc n = y ∙ add-one n in
             let k : m' ≡ set m i 0 = d.labels ∙ ap (λ (b : Bool). cond b (set m i 0) m) e in
             record {
-              labels = k ∙ sym (drops ∙ ap₂ (λ (x z : Bool). cond (x && z) (set m i 0) m) (eq-eqb (get_or m i 0) (suc n) v) (twice_in y.0 y.1));
+              labels = k ∙ sym (drops ∙ ap₂ (λ (x z : Bool). cond (x && z) (set m i 0) m) (eq-eqb (get_or m i 0) (suc n) v) (twice_in y (d.tells.yes e)));
               counters = ext_get_or 0 c' (counts W H B (set m i 0)) (size ∙ sym (counts-length W H B (set m i 0))) (λ x l.
                   let hx : x < W * H = subst (λ (j : ℕ). x < j) size l in
-                  at x hx ∙ ap₂ (λ (b z : Bool). get_or c x 0 - cond (b && z) 1 0) e (shape-hits W H r B n a plane s i x (stays y.0))
+                  at x hx ∙ ap₂ (λ (b z : Bool). get_or c x 0 - cond (b && z) 1 0) e (shape-hits W H r B n a plane s i x (stays y))
                   ∙ ap (λ (l : List ℕ). get_or l x 0 - cond (spread W B n i (place W x)) 1 0) q ∙ sym (counters-drop W H B m i n x h hx v))
                   ∙ ap (counts W H B) (sym k);
               size = ap length k ∙ length-set m i 0;
@@ -125,8 +124,7 @@ module _ (W H r : ℕ) (B : List Point) (n a : ℕ) (plane : List ℕ) (s : Shap
             let k : m' ≡ m = d.labels ∙ ap (λ (b : Bool). cond b (set m i 0) m) e in
             let off : (eqb (get_or m i 0) (suc n) && all_twice W H B n i c) ≡ false =
             false_of (eqb (get_or m i 0) (suc n) && all_twice W H B n i c) (λ u.
-            let v = eqb→eq (get_or m i 0) (suc n) (and_l (eqb (get_or m i 0) (suc n)) (all_twice W H B n i c) u) ∙ sym (add-one n) in
-            d.tells.no e (v, twice-out v (and_r (eqb (get_or m i 0) (suc n)) (all_twice W H B n i c) u))) in
+            d.tells.no e (twice-out y (and_r (eqb (get_or m i 0) (suc n)) (all_twice W H B n i c) u))) in
             let same : c' ≡ c =
             ext_get_or 0 c' c d.counters.size (λ x l.
             let hx : x < W * H = subst (λ (j : ℕ). x < j) size l in
@@ -137,30 +135,6 @@ module _ (W H r : ℕ) (B : List Point) (n a : ℕ) (plane : List ℕ) (s : Shap
               counters = same ∙ q ∙ ap (counts W H B) (sym k);
               size = ap length k;
             }
-
--- what can go can be counted down
-pub twice_open : (f : ℕ → Bool) (i a : ℕ) (c : List ℕ) → Within f i a (length c) → Twice f i a c → Open false f i a c
-twice_open f i a c w t = record { within = w; free = λ k u. omega (arith, t k u) }
-
--- ---- how a step ends
-
-module _ (W H n a i : ℕ) (s m c : List ℕ) where
-  pub stepped_still : (((get_or m i 0 ≡ n + 1) × Twice (below (W * H) (ink_at W H s)) i a c) → ⊥) → StepDone W H n a i s m c m c
-  stepped_still f = record {
-    gone = false;
-    tells = tells-no f;
-    labels = refl;
-    counters = moved-unless false false (hits (below (W * H) (ink_at W H s)) i a) c refl;
-  }
-
-  pub stepped-gone : (c' : List ℕ) → get_or m i 0 ≡ n + 1 → Twice (below (W * H) (ink_at W H s)) i a c → CoverMoved false (hits (below (W * H) (ink_at W H s)) i a) c c'
-      → StepDone W H n a i s m c (set m i 0) c'
-  stepped-gone c' e t v = record {
-    gone = true;
-    tells = tells-yes (e, t);
-    labels = refl;
-    counters = moved_when false true (hits (below (W * H) (ink_at W H s)) i a) c c' refl v;
-  }
 
 -- ---- a size, place by place
 

@@ -49,9 +49,8 @@ pub record InBand (W H r : ℕ) (g : Band) (s : List ℕ) : Type 0 where
   pub clean : T (is_clean W H s)
   pub bounds : Bounds H r g s
 
--- a plane and its band, and a place i of the map m where a point of size n may stand
-pub record CoverAt (W H r : ℕ) (g : Band) (n i : ℕ) (m s : List ℕ) : Type 0 where
+-- a plane and its band, and a place i of the map m
+pub record CoverAt (W H r : ℕ) (g : Band) (i : ℕ) (m s : List ℕ) : Type 0 where
   pub banded : InBand W H r g s
   pub place : i < length m
   pub near : i < 2 ^ 30
-  pub size : n < 2 ^ 30

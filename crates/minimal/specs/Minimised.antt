@@ -1,18 +1,11 @@
--- Minimisation whole: what it answers, as 01 numbers it, what it begins with and what it leaves.
+-- Minimisation whole: what it begins with and what it leaves.
 use Rattle.std.specs.Prelude.{false, List, ◌≡◌, ◌*◌, ◌≤◌, ℕ, T, length, replicate}
-use Rattle.morphology.specs.Answers.{Answer, minimal, refused}
 use Rattle.morphology.specs.Element.{is_element, offsets}
 use Rattle.morphology.specs.Image.{plane_bytes}
 use Rattle.morphology.specs.Labels.{points_of}
 use Rattle.morphology.specs.Minimal.{minimal_labels}
 use Rattle.morphology.specs.Operations.{cleared}
 use Rattle.morphology.specs.Refusals.{is_wild, max_side}
-use Rattle.minimal.specs.declared.Minimised.{Minimised}
-use Rattle.minimal.specs.declared.Minimised.TheVariants.{Points, Refused}
-
-abbrev pub answer_of : Minimised → Answer
-answer_of (Refused n) = refused n
-answer_of (Points n) = minimal n
 
 -- what the rows 1, 2, 3 and 5 let pass
 pub record Passed (W H e : ℕ) (m w c : List ℕ) : Type 0 where

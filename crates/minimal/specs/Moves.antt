@@ -45,3 +45,41 @@ Twice f at a c = (k : ℕ) → T (f k) → 2 ≤ get_or c (at + k - a) 0
 pub record Tells (t : Bool) (P : Type 0) : Type 0 where
   pub yes : t ≡ true → P
   pub no : t ≡ false → P → ⊥
+
+-- ---- what is done at each counter
+
+-- one more (true) or less, or a test whether it is two or more
+pub data Task : Type 0 where
+  count : Bool → Task
+  test : Task
+
+-- a counter that it can be done at
+abbrev pub Takes : Task → ℕ → Type 0
+Takes (count up) v = Free up v
+Takes test v = Unit {0}
+
+-- the one that a pixel at `at` is moved to
+pub record Slot (k : Task) (at a : ℕ) (c : List ℕ) : Type 0 where
+  pub lower : a ≤ at
+  pub inside : at - a < length c
+  pub takes : Takes k (get_or c (at - a) 0)
+
+-- the counter after it
+abbrev pub after : Task → ℕ → ℕ
+after (count up) v = counted up true v
+after test v = v
+
+-- whether the counter passes
+abbrev pub passes : Task → ℕ → Bool
+passes (count up) v = true
+passes test v = leb 2 v
+
+-- each k of f, moved, is such a counter
+abbrev pub Ready : Task → (ℕ → Bool) → ℕ → ℕ → List ℕ → Type 0
+Ready (count up) f at a c = Open up f at a c
+Ready test f at a c = Within f at a (length c)
+
+-- c with it done there, as far as all pass; t tells whether all do
+abbrev pub Done : Task → (ℕ → Bool) → ℕ → ℕ → List ℕ → List ℕ → Bool → Type 0
+Done (count up) f at a c c' t = (t ≡ true) × CoverMoved up (hits f at a) c c'
+Done test f at a c c' t = (c' ≡ c) × Tells t (Twice f at a c)

@@ -7,8 +7,7 @@ use Rattle.morphology.specs.Lists.{count_of, greatest, up_to}
 use Rattle.morphology.specs.Minimal.{covers}
 use Rattle.morphology.specs.Point.{Point}
 use Rattle.morphology.specs.Refusals.{max_side}
-use Rattle.raster.specs.Frames.{Frame}
-use Rattle.iteration.specs.Steps.{Sheet}
+use Rattle.raster.specs.Frames.{Frame, Sheet}
 use Rattle.minimal.specs.Covers.{AllStay, Stays, spread}
 
 -- a plane is what a point of size n at place a covers, and that stays on the frame

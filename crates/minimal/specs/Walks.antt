@@ -1,5 +1,5 @@
 -- One step of the walk, and the walk of a size. Definitions only; proofs/WalkLaws.antt has the laws.
-use Rattle.std.specs.Prelude.{Bool, ◌&&◌, cond, false, List, ◌≡◌, ◌*◌, ◌+◌, ℕ, get_or, length, set}
+use Rattle.std.specs.Prelude.{Bool, ◌&&◌, cond, false, List, ◌≡◌, ◌*◌, ℕ, length, set}
 use Rattle.morphology.specs.Lists.{up_to}
 use Rattle.morphology.specs.Minimal.{drop_size}
 use Rattle.morphology.specs.Point.{Point}
@@ -7,10 +7,10 @@ use Rattle.minimal.specs.Bands.{ink_at}
 use Rattle.minimal.specs.Covers.{counts}
 use Rattle.minimal.specs.Moves.{CoverMoved, Tells, Twice, below, hits}
 
--- place i has a point of size n, and the plane s, moved from a to it, counts two or more everywhere: then the point is gone, and its cover counts one less
-pub record StepDone (W H n a i : ℕ) (s m c m' c' : List ℕ) : Type 0 where
+-- the plane s, moved from a to place i, counts two or more everywhere: then the point there is gone, and its cover counts one less
+pub record StepDone (W H a i : ℕ) (s m c m' c' : List ℕ) : Type 0 where
   pub gone : Bool
-  pub tells : Tells gone ((get_or m i 0 ≡ n + 1) × Twice (below (W * H) (ink_at W H s)) i a c)
+  pub tells : Tells gone (Twice (below (W * H) (ink_at W H s)) i a c)
   pub labels : m' ≡ cond gone (set m i 0) m
   pub counters : CoverMoved false (λ x. gone && hits (below (W * H) (ink_at W H s)) i a x) c c'
 

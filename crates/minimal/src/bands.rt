@@ -1,5 +1,5 @@
 // Where a plane is not blank: the rows and bytes that a cover has to go through.
-ghost use Rattle.std.specs.Prelude.{◌+◌, ◌*◌, ◌-◌, ◌≤◌, length};
+ghost use Rattle.std.specs.Prelude.{◌+◌, ◌*◌, ◌≤◌, length};
 ghost use Rattle.minimal.specs.Bands.{Blank, Strip, Bounds};
 
 // What is not blank of a plane, with a margin or not: the rows between those above and under, and of these the bytes from left on, up to right.
@@ -16,14 +16,12 @@ fn row_left(plane: &[u8], d: usize, left: usize) -> usize
     requires { d + left ≤ length plane.now }
     ensures { (result ≤ left) × Blank d (d + result) plane.now }
 {
-    let mut j: usize = 0;
-    while j < left {
+    for j in 0..left {
         if plane[d + j] != 0 {
             return j;
         }
-        j = j + 1;
     }
-    j
+    left
 }
 
 // Where the blank bytes at the right of the row at d begin, right at least.
@@ -31,14 +29,12 @@ fn row_right(plane: &[u8], d: usize, r: usize, right: usize) -> usize
     requires { (d + r ≤ length plane.now) × (right ≤ r) }
     ensures { (right ≤ result) × (result ≤ r) × Blank (d + result) (d + r) plane.now }
 {
-    let mut j = r;
-    while right < j {
-        if plane[d + (j - 1)] != 0 {
-            return j;
+    for j in (right..r).rev() {
+        if plane[d + j] != 0 {
+            return j + 1;
         }
-        j = j - 1;
     }
-    j
+    right
 }
 
 // The blank bytes at the left of all rows between.
@@ -47,10 +43,8 @@ fn blank_left(plane: &[u8], r: usize, from: usize, to: usize) -> usize
     ensures { (result ≤ r) × Strip r from to 0 result plane.now }
 {
     let mut left = r;
-    let mut y = from;
-    while y < to {
+    for y in from..to {
         left = row_left(plane, y * r, left);
-        y = y + 1;
     }
     left
 }
@@ -61,10 +55,8 @@ fn blank_right(plane: &[u8], r: usize, from: usize, to: usize, left: usize) -> u
     ensures { (left ≤ result) × (result ≤ r) × Strip r from to result r plane.now }
 {
     let mut right = left;
-    let mut y = from;
-    while y < to {
+    for y in from..to {
         right = row_right(plane, y * r, r, right);
-        y = y + 1;
     }
     right
 }

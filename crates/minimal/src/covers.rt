@@ -1,158 +1,95 @@
 // What a point covers, in counters: counted up, tested, counted down.
-ghost use Rattle.std.specs.Prelude.{◌≡◌, true, ◌+◌, ◌*◌, ◌-◌, ◌<◌, ◌^◌, length};
+ghost use Rattle.std.specs.Prelude.{◌≡◌, true, false, ◌+◌, ◌*◌, ◌<◌, ◌^◌};
 ghost use Rattle.morphology.specs.Image.{bit_of};
 ghost use Rattle.raster.specs.Rows.{row_bit};
 ghost use Rattle.minimal.specs.Bands.{InBand, CoverRow, ink_at};
-ghost use Rattle.minimal.specs.Moves.{below, hits, Within, counted, Free, Open, CoverMoved, Twice, Tells};
+ghost use Rattle.minimal.specs.Moves.{below, Task, count, test, Takes, Slot, after, passes, Ready, Done};
 
 use crate::bands::Band;
+use raster::Frame;
 
-// A counter one up or one down.
-fn next(up: bool, v: u16) -> u16
-    requires { Free up v }
-    ensures { result ≡ counted up true v }
-{
-    if up {
-        return v + 1;
+// What is done at each counter of a cover.
+pub trait Visit {
+    ghost task: { Task };
+
+    // Whether the cover is gone through further.
+    fn visit(counter: &mut u16) -> bool
+        requires { Takes task counter.old }
+        ensures { (counter.new ≡ after task counter.old) × (result ≡ passes task counter.old) };
+}
+
+// One more.
+pub struct Up;
+
+impl Visit for Up {
+    ghost task = { count true };
+
+    fn visit(counter: &mut u16) -> bool {
+        *counter += 1;
+        true
     }
-    v - 1
+}
+
+// One less.
+pub struct Down;
+
+impl Visit for Down {
+    ghost task = { count false };
+
+    fn visit(counter: &mut u16) -> bool {
+        *counter -= 1;
+        true
+    }
+}
+
+// Whether it is two or more.
+pub struct Twice;
+
+impl Visit for Twice {
+    ghost task = { test };
+
+    fn visit(counter: &mut u16) -> bool {
+        *counter >= 2
+    }
 }
 
 // The counter of a pixel that is moved from a to at, where it is foreground.
-fn move_pixel(up: bool, ink: bool, at: usize, a: usize, counters: &mut [u16])
-    requires { Open up (below 1 (λ _. ink)) at a counters.old }
-    ensures { CoverMoved up (hits (below 1 (λ _. ink)) at a) counters.old counters.new }
+fn visit_pixel<V: Visit>(ink: bool, at: usize, a: usize, counters: &mut [u16]) -> bool
+    requires { ink ≡ true → Slot V.task at a counters.old }
+    ensures { Done V.task (below 1 (λ _. ink)) at a counters.old counters.new result }
 {
     if ink {
-        let x = at - a;
-        counters[x] = next(up, counters[x]);
-    }
-}
-
-// The counters of a byte's eight pixels.
-fn move_bits(up: bool, b: u8, at: usize, a: usize, counters: &mut [u16])
-    requires { (at < 2 ^ 32) × Open up (below 8 (bit_of b)) at a counters.old }
-    ensures { CoverMoved up (hits (below 8 (bit_of b)) at a) counters.old counters.new }
-{
-    let mut k: usize = 0;
-    while k < 8 {
-        move_pixel(up, raster::is_ink(b, k), at + k, a, counters);
-        k = k + 1;
-    }
-}
-
-// The same; a blank byte is passed over, and a full one is known where it is compiled.
-fn move_byte(up: bool, b: u8, at: usize, a: usize, counters: &mut [u16])
-    requires { (at < 2 ^ 32) × Open up (below 8 (bit_of b)) at a counters.old }
-    ensures { CoverMoved up (hits (below 8 (bit_of b)) at a) counters.old counters.new }
-{
-    if b == 0 {
-        return;
-    }
-    if b == 255 {
-        move_bits(up, 255, at, a, counters);
-        return;
-    }
-    move_bits(up, b, at, a, counters);
-}
-
-// The counters of a row's pixels: the r bytes at d, blank before left and from right on.
-fn move_row(
-    up: bool,
-    plane: &[u8],
-    d: usize,
-    r: usize,
-    left: usize,
-    right: usize,
-    at: usize,
-    a: usize,
-    counters: &mut [u16],
-)
-    requires { CoverRow d r left right at plane.now
-        × Open up (below (8 * r) (λ k. row_bit plane.now (8 * d + k))) at a counters.old }
-    ensures { CoverMoved up (hits (below (8 * r) (λ k. row_bit plane.now (8 * d + k))) at a) counters.old counters.new }
-{
-    let mut j = left;
-    while j < right {
-        move_byte(up, plane[d + j], at + 8 * j, a, counters);
-        j = j + 1;
-    }
-}
-
-// The counters of a plane's pixels, moved from a to i, up or down.
-pub fn move_cover(
-    up: bool,
-    plane: &[u8],
-    w: usize,
-    h: usize,
-    r: usize,
-    band: Band,
-    a: usize,
-    i: usize,
-    counters: &mut [u16],
-)
-    requires { InBand w h r band plane.now × (i < 2 ^ 30) × Open up (below (w * h) (ink_at w h plane.now)) i a counters.old }
-    ensures { CoverMoved up (hits (below (w * h) (ink_at w h plane.now)) i a) counters.old counters.new }
-{
-    let end = h - band.under;
-    let mut y = band.above;
-    while y < end {
-        move_row(
-            up,
-            plane,
-            y * r,
-            r,
-            band.left,
-            band.right,
-            i + y * w,
-            a,
-            counters,
-        );
-        y = y + 1;
-    }
-}
-
-// Whether the counter of a pixel that is moved from a to at is two or more, where it is foreground.
-fn pixel_is_twice(ink: bool, at: usize, a: usize, counters: &[u16]) -> bool
-    requires { Within (below 1 (λ _. ink)) at a (length counters.now) }
-    ensures { Tells result (Twice (below 1 (λ _. ink)) at a counters.now) }
-{
-    if ink {
-        return counters[at - a] >= 2;
+        return V::visit(&mut counters[at - a]);
     }
     true
 }
 
-// Whether the counters of a byte's eight pixels are.
-fn bits_are_twice(b: u8, at: usize, a: usize, counters: &[u16]) -> bool
-    requires { (at < 2 ^ 32) × Within (below 8 (bit_of b)) at a (length counters.now) }
-    ensures { Tells result (Twice (below 8 (bit_of b)) at a counters.now) }
+// The counters of a byte's eight pixels.
+fn visit_bits<V: Visit>(b: u8, at: usize, a: usize, counters: &mut [u16]) -> bool
+    requires { (at < 2 ^ 32) × Ready V.task (below 8 (bit_of b)) at a counters.old }
+    ensures { Done V.task (below 8 (bit_of b)) at a counters.old counters.new result }
 {
     let mut all = true;
-    let mut k: usize = 0;
-    while k < 8 {
-        all = all & pixel_is_twice(raster::is_ink(b, k), at + k, a, counters);
-        k = k + 1;
+    for k in 0..8 {
+        all &= visit_pixel::<V>(raster::is_ink(b, k), at + k, a, counters);
     }
     all
 }
 
 // The same; a blank byte is passed over, and a full one is known where it is compiled.
-fn byte_is_twice(b: u8, at: usize, a: usize, counters: &[u16]) -> bool
-    requires { (at < 2 ^ 32) × Within (below 8 (bit_of b)) at a (length counters.now) }
-    ensures { Tells result (Twice (below 8 (bit_of b)) at a counters.now) }
+fn visit_byte<V: Visit>(b: u8, at: usize, a: usize, counters: &mut [u16]) -> bool
+    requires { (at < 2 ^ 32) × Ready V.task (below 8 (bit_of b)) at a counters.old }
+    ensures { Done V.task (below 8 (bit_of b)) at a counters.old counters.new result }
 {
-    if b == 0 {
-        return true;
+    match b {
+        0 => true,
+        255 => visit_bits::<V>(255, at, a, counters),
+        _ => visit_bits::<V>(b, at, a, counters),
     }
-    if b == 255 {
-        return bits_are_twice(255, at, a, counters);
-    }
-    bits_are_twice(b, at, a, counters)
 }
 
-// Whether those of a row's pixels are.
-fn row_is_twice(
+// The counters of a row's pixels: the r bytes at d, blank before left and from right on.
+fn visit_row<V: Visit>(
     plane: &[u8],
     d: usize,
     r: usize,
@@ -160,52 +97,39 @@ fn row_is_twice(
     right: usize,
     at: usize,
     a: usize,
-    counters: &[u16],
+    counters: &mut [u16],
 ) -> bool
     requires { CoverRow d r left right at plane.now
-        × Within (below (8 * r) (λ k. row_bit plane.now (8 * d + k))) at a (length counters.now) }
-    ensures { Tells result (Twice (below (8 * r) (λ k. row_bit plane.now (8 * d + k))) at a counters.now) }
+        × Ready V.task (below (8 * r) (λ k. row_bit plane.now (8 * d + k))) at a counters.old }
+    ensures { Done V.task (below (8 * r) (λ k. row_bit plane.now (8 * d + k))) at a counters.old counters.new result }
 {
-    let mut j = left;
-    while j < right {
-        if !byte_is_twice(plane[d + j], at + 8 * j, a, counters) {
+    for j in left..right {
+        if !visit_byte::<V>(plane[d + j], at + 8 * j, a, counters) {
             return false;
         }
-        j = j + 1;
     }
     true
 }
 
-// Whether the counters of a plane's pixels, moved from a to i, are two or more.
-pub fn is_twice(
+// The counters of a plane's pixels, moved from a to i, as long as each says that it goes on. Whether all do.
+pub fn visit_cover<V: Visit>(
     plane: &[u8],
-    w: usize,
-    h: usize,
-    r: usize,
+    f: Frame,
     band: Band,
     a: usize,
     i: usize,
-    counters: &[u16],
+    counters: &mut [u16],
 ) -> bool
-    requires { InBand w h r band plane.now × (i < 2 ^ 30) × Within (below (w * h) (ink_at w h plane.now)) i a (length counters.now) }
-    ensures { Tells result (Twice (below (w * h) (ink_at w h plane.now)) i a counters.now) }
+    requires { InBand f.w f.h f.r band plane.now × (i < 2 ^ 30) × Ready V.task (below (f.w * f.h) (ink_at f.w f.h plane.now)) i a counters.old }
+    ensures { Done V.task (below (f.w * f.h) (ink_at f.w f.h plane.now)) i a counters.old counters.new result }
 {
-    let end = h - band.under;
-    let mut y = band.above;
-    while y < end {
-        if !row_is_twice(
-            plane,
-            y * r,
-            r,
-            band.left,
-            band.right,
-            i + y * w,
-            a,
-            counters,
-        ) {
+    let Frame { w, h, r, .. } = f;
+    for y in band.above..h - band.under {
+        let d = y * r;
+        let at = i + y * w;
+        if !visit_row::<V>(plane, d, r, band.left, band.right, at, a, counters) {
             return false;
         }
-        y = y + 1;
     }
     true
 }

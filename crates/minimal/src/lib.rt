@@ -10,31 +10,21 @@ mod walks;
 ghost use Rattle.std.specs.Prelude.{◌≡◌, false, [], ◌∷◌};
 ghost use Rattle.morphology.specs.Answers.{outcome};
 ghost use Rattle.morphology.specs.Operations.{minimised, minimise_rows};
-ghost use Rattle.morphology.specs.Refusals.{first_refusal, not_places};
-ghost use Rattle.minimal.specs.Minimised.{answer_of, Passed, Shortened};
+ghost use Rattle.morphology.specs.Refusals.{first_refusal};
+ghost use Rattle.refusals.specs.Refusal.{answer_of, refusal_of};
+ghost use Rattle.minimal.specs.Minimised.{Passed, Shortened};
 
-// The answer of a minimisation: the points left.
-#[derive(Drop)]
-pub enum Minimised {
-    Refused(u8),
-    Points(u32),
-}
+use raster::Frame;
+use refusals::Refusal;
 
 // What minimisation leaves: the points, and whether a point of a shape fell off on the way.
-#[derive(Drop)]
+#[derive(Clone, Copy)]
 struct Shorter {
     points: u32,
     clipped: bool,
 }
 
-// Row 3: counters are not W times H.
-fn not_counters(w: u32, h: u32, counters: &[u16]) -> bool
-    ensures { result ≡ not_places w h counters.now }
-{
-    counters.len() != w as usize * h as usize
-}
-
-// The first row of the table of refusals that applies to a minimisation; 0 if there is none.
+// The rows of the table of refusals that a minimisation has.
 fn minimise_refusal(
     w: u32,
     h: u32,
@@ -42,41 +32,36 @@ fn minimise_refusal(
     labels: &[u8],
     work: &[u8],
     counters: &[u16],
-) -> u8
-    ensures { result ≡ first_refusal (minimise_rows w h element labels.now work.now counters.now) }
+) -> Result<(), Refusal>
+    ensures { refusal_of result ≡ first_refusal (minimise_rows w h element labels.now work.now counters.now) }
 {
     let places = refusals::not_places(w, h, labels);
     let planes = refusals::short_work(w, h, work);
-    let counts = not_counters(w, h, counters);
-    let shape = refusals::shape_rows(w, h, element, places, planes, counts);
-    if shape != 0 {
-        return shape;
-    }
+    let counts = refusals::not_places(w, h, counters);
+    refusals::shape_rows(w, h, element, places, planes, counts)?;
     let wild = containment::is_wild(w as usize, h as usize, element, labels);
-    refusals::row(5, wild)
+    Refusal::Labels.when(wild)
 }
 
 // Labels that are not refused, minimised. Answers the points left, and whether a shape was clipped: none is.
 fn minimise_into(
-    w: usize,
-    h: usize,
+    f: Frame,
     element: u32,
     labels: &mut [u8],
     work: &mut [u8],
     counters: &mut [u16],
 ) -> Shorter
-    requires { Passed w h element labels.old work.old counters.old }
-    ensures done { Shortened w h element labels.old work.old
+    requires { Passed f.w f.h element labels.old work.old counters.old }
+    ensures done { Shortened f.w f.h element labels.old work.old
         result.points labels.new work.new counters.new }
     ensures clipped { result.clipped ≡ false }
 {
-    let r = (w + 7) / 8;
-    let p = h * r;
+    let Frame { p, .. } = f;
     let a = sizes::tallest(&labels[..]);
     let top = labels[a] as usize;
-    let counted = sizes::count_up(w, h, r, p, element, a, top, &labels[..], work, counters);
-    let walked = walks::walk(w, h, r, p, element, a, top, labels, work, counters);
-    sizes::clear(counters);
+    let counted = sizes::count_up(f, element, a, top, &labels[..], work, counters);
+    let walked = walks::walk(f, element, a, top, labels, work, counters);
+    counters.fill(0);
     iteration::clear_work(p, work);
     let points = sizes::points_of(&labels[..]);
     Shorter {
@@ -85,7 +70,7 @@ fn minimise_into(
     }
 }
 
-// Minimisation: the points that other points cover are dropped from labels, by size and place.
+// Minimisation: the points that other points cover are dropped from labels, by size and place. Answers the points left.
 pub fn minimise(
     w: u32,
     h: u32,
@@ -93,15 +78,12 @@ pub fn minimise(
     labels: &mut [u8],
     work: &mut [u8],
     counters: &mut [u16],
-) -> Minimised
+) -> Result<u32, Refusal>
     ensures { outcome (answer_of result) (labels.new ∷ work.new ∷ counters.new ∷ [])
         ≡ minimised w h element labels.old work.old counters.old }
 {
-    let no = minimise_refusal(w, h, element, &labels[..], &work[..], &counters[..]);
-    let refuses = no != 0;
-    if refuses {
-        return Minimised::Refused(no);
-    }
-    let shorter = minimise_into(w as usize, h as usize, element, labels, work, counters);
-    Minimised::Points(shorter.points)
+    minimise_refusal(w, h, element, &labels[..], &work[..], &counters[..])?;
+    let f = Frame::new(w as usize, h as usize);
+    let shorter = minimise_into(f, element, labels, work, counters);
+    Ok(shorter.points)
 }

@@ -12,7 +12,7 @@ fn past_blocks(labels: &[u8], v: u8, k: usize, from: usize) -> usize
         if label_read::has_label(&labels[i..i + k], v) {
             return i;
         }
-        i = i + k;
+        i += k;
     }
     i
 }
@@ -22,14 +22,12 @@ fn past_places(labels: &[u8], v: u8, from: usize) -> usize
     requires { from ≤ length labels.now }
     ensures { NextPlace v from labels.now result }
 {
-    let mut i = from;
-    while i < labels.len() {
+    for i in from..labels.len() {
         if labels[i] == v {
             return i;
         }
-        i = i + 1;
     }
-    i
+    labels.len()
 }
 
 // The same; most places are passed over by blocks.

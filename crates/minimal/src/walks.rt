@@ -1,5 +1,5 @@
 // The walk of 01: by size, smallest first, and within a size by place.
-ghost use Rattle.std.specs.Prelude.{◌≡◌, false, ◌+◌, ◌*◌, ◌<◌, length, get_or};
+ghost use Rattle.std.specs.Prelude.{◌≡◌, false, ◌*◌, ◌<◌, length};
 ghost use Rattle.morphology.specs.Element.{offsets};
 ghost use Rattle.morphology.specs.Labels.{max_label};
 ghost use Rattle.morphology.specs.Minimal.{minimal_labels};
@@ -10,40 +10,32 @@ ghost use Rattle.minimal.specs.Sizes.{Shape, AllFit, WalkBegun, Left};
 ghost use Rattle.minimal.specs.Walks.{StepDone, Walked};
 
 use crate::bands::Band;
+use crate::covers::{Down, Twice};
 use crate::{bands, covers, places, sizes};
+use raster::Frame;
 
-// Drops the point of size n at place i, where each place of its cover counts two or more, and counts its cover down.
+// Drops the point at place i, where each place of its cover counts two or more, and counts its cover down.
 fn step(
-    w: usize,
-    h: usize,
-    r: usize,
+    f: Frame,
     band: Band,
     a: usize,
-    n: usize,
     i: usize,
     labels: &mut [u8],
     plane: &[u8],
     counters: &mut [u16],
 )
-    requires { CoverAt w h r band n i labels.old plane.now
-        × (get_or labels.old i 0 ≡ n + 1 → Within (below (w * h) (ink_at w h plane.now)) i a (length counters.old)) }
-    ensures { StepDone w h n a i plane.now labels.old counters.old labels.new counters.new }
+    requires { CoverAt f.w f.h f.r band i labels.old plane.now × Within (below (f.w * f.h) (ink_at f.w f.h plane.now)) i a (length counters.old) }
+    ensures { StepDone f.w f.h a i plane.now labels.old counters.old labels.new counters.new }
 {
-    if labels[i] as usize != n + 1 {
-        return;
+    if covers::visit_cover::<Twice>(plane, f, band, a, i, counters) {
+        labels[i] = 0;
+        covers::visit_cover::<Down>(plane, f, band, a, i, counters);
     }
-    if !covers::is_twice(plane, w, h, r, band, a, i, &counters[..]) {
-        return;
-    }
-    labels[i] = 0;
-    covers::move_cover(false, plane, w, h, r, band, a, i, counters);
 }
 
 // Walks the points of size n, whose shape the plane is, place by place.
 fn walk_size(
-    w: usize,
-    h: usize,
-    r: usize,
+    f: Frame,
     element: u32,
     a: usize,
     n: usize,
@@ -51,25 +43,22 @@ fn walk_size(
     plane: &[u8],
     counters: &mut [u16],
 )
-    requires { Shape w h r (offsets element) n a plane.now × AllFit w h (offsets element) labels.old × (n < max_label)
-        × (counters.old ≡ counts w h (offsets element) labels.old) }
-    ensures { Walked w h (offsets element) n labels.old labels.new counters.new }
+    requires { Shape f.w f.h f.r (offsets element) n a plane.now × AllFit f.w f.h (offsets element) labels.old × (n < max_label)
+        × (counters.old ≡ counts f.w f.h (offsets element) labels.old) }
+    ensures { Walked f.w f.h (offsets element) n labels.old labels.new counters.new }
 {
-    let band = bands::band_of(plane, h, r);
+    let band = bands::band_of(plane, f.h, f.r);
     let v = (n + 1) as u8;
     let mut i = places::next_place(&labels[..], v, 0);
     while i < labels.len() {
-        step(w, h, r, band, a, n, i, labels, plane, counters);
+        step(f, band, a, i, labels, plane, counters);
         i = places::next_place(&labels[..], v, i + 1);
     }
 }
 
 // Walks the sizes, from the smallest to the largest. Answers whether a point of a shape fell off: none does.
 pub fn walk(
-    w: usize,
-    h: usize,
-    r: usize,
-    p: usize,
+    f: Frame,
     element: u32,
     a: usize,
     top: usize,
@@ -77,18 +66,17 @@ pub fn walk(
     work: &mut [u8],
     counters: &mut [u16],
 ) -> bool
-    requires { WalkBegun w h r p element a top labels.old work.old × (counters.old ≡ counts w h (offsets element) labels.old) }
-    ensures labels { labels.new ≡ minimal_labels w h (offsets element) labels.old }
-    ensures work { Left p work.old work.new }
+    requires { WalkBegun f.w f.h f.r f.p element a top labels.old work.old × (counters.old ≡ counts f.w f.h (offsets element) labels.old) }
+    ensures labels { labels.new ≡ minimal_labels f.w f.h (offsets element) labels.old }
+    ensures work { Left f.p work.old work.new }
     ensures clipped { result ≡ false }
 {
-    sizes::mark(w, h, r, a, work);
+    let Frame { p, .. } = f;
+    sizes::mark(f, a, work);
     let mut clipped = false;
-    let mut n: usize = 0;
-    while n < top {
-        clipped = clipped | sizes::reach_size(w, h, r, p, element, a, n, work);
-        walk_size(w, h, r, element, a, n, labels, &work[..p], counters);
-        n = n + 1;
+    for n in 0..top {
+        clipped |= sizes::reach_size(f, element, a, n, work);
+        walk_size(f, element, a, n, labels, &work[..p], counters);
     }
     clipped
 }

@@ -1,12 +1,10 @@
 -- Planes to which pixels are joined.
-use mathlib.Core.Bool.{Bool, cond, false, not, true}
+use mathlib.Core.Bool.{Bool, not}
 use mathlib.Core.List.{List}
 use mathlib.Core.Path.{◌∙◌, ◌≡◌, ap, refl, sym}
-use Prim.Native.Nat.{◌*◌, ◌+◌, ◌<◌, ◌≤◌, ℕ}
-use native.Mathlib.Omega.{arith}
-use lib.ListN.{length}
+use Prim.Native.Nat.{◌*◌, ◌+◌, ◌<◌, ℕ}
 use Rattle.raster.specs.Rows.{join, row_bit}
-use Rattle.neighbours.specs.Neighbours.{PlaneJoined, source}
+use Rattle.neighbours.specs.Neighbours.{PlaneJoined}
 use Rattle.neighbours.proofs.NeighbourLaws.{join_assoc, join_unit}
 
 -- ---- planes
@@ -30,8 +28,3 @@ plane_more t p r h u v w f g a b = record {
   pixels = λ y x l k.
       b.pixels y x l k ∙ ap (λ (c : Bool). join t c (g y x)) (a.pixels y x l k) ∙ join_assoc t (row_bit u (8 * (p + y * r) + x)) (f y x) (g y x);
 }
-
--- the source has room
-pub source_fits : (own : Bool) (n p : ℕ) (image w : List ℕ) → n ≤ cond own p (length image) → p + n ≤ length w → n ≤ length (source own image w)
-source_fits true n p image w h k = omega arith
-source_fits false n p image w h k = h

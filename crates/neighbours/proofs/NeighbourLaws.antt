@@ -1,5 +1,5 @@
 -- What an element asks, pixel by pixel.
-use mathlib.Core.Bool.{Bool, ◌&&◌, and_assoc, and_comm, and-true, cond, false, not, or_assoc, or_comm, or-false, true}
+use mathlib.Core.Bool.{Bool, ◌&&◌, and_assoc, and_comm, and-true, false, not, or_assoc, or_comm, or-false, true}
 use mathlib.Core.List.{List}
 use mathlib.Core.Path.{◌∙◌, ◌≡◌, ap, ap₂, refl, sym}
 use Prim.Native.Nat.{◌%◌, ◌*◌, ◌+◌, ◌-◌, ◌/◌, ◌<◌, ◌≤◌, suc, zero, ℕ}
@@ -7,8 +7,8 @@ use native.Mathlib.Decide.{dec_le, dec_lt}
 use native.Mathlib.Nat.{le_refl}
 use native.Mathlib.Numerals.{add-one}
 use native.Mathlib.Omega.{arith}
-use borrow.Author.Tests.{eq-eqb, le-ltb, lt-leb, ne_eqb}
-use lib.Dec.{eqb, leb, ltb}
+use borrow.Author.Tests.{le-ltb, lt-leb}
+use lib.Dec.{leb, ltb}
 use lib.ListN.{get_or-eq_default, get_or, get_or-replicate, length-replicate, replicate}
 use Rattle.raster.specs.Rows.{RowJoined, join, row_bit}
 use Rattle.raster.proofs.ByteLaws.{zero_bit}
@@ -74,16 +74,6 @@ near_same a b r h e X Y = by (dec_lt (Y - 2) h) (dec_le 8 X) (dec_lt X (8 * r + 
 pub row_kept : (t : Bool) (l : List ℕ) (f : ℕ → Bool) → ((x : ℕ) → f x ≡ not t) → RowJoined t l l f
 row_kept t l f h = record { size = refl; pixels = λ x i. sym (ap (join t (row_bit l x)) (h x) ∙ join_unit t (row_bit l x)) }
 
--- where a digit is 1
-pub row-unless : (t : Bool) (l : List ℕ) (f : ℕ → Bool) (digit : ℕ) → (digit ≡ 1 → ⊥) → RowJoined t l l (λ x. cond (eqb digit 1) (f x) (not t))
-row-unless t l f digit d = row_kept t l (λ x. cond (eqb digit 1) (f x) (not t)) (λ x. ap (λ (b : Bool). cond b (f x) (not t)) (ne_eqb digit 1 d))
-
-pub row_if : (t : Bool) (old new : List ℕ) (f : ℕ → Bool) (digit : ℕ) → digit ≡ 1 → RowJoined t old new f → RowJoined t old new (λ x. cond (eqb digit 1) (f x) (not t))
-row_if t old new f digit e m = record {
-  size = m.size;
-  pixels = λ x k. m.pixels x k ∙ sym (ap (λ (b : Bool). join t (row_bit old x) (cond b (f x) (not t))) (eq-eqb digit 1 e));
-}
-
 -- ---- rows of the plane
 
 -- each k below 5
@@ -98,12 +88,6 @@ below5 P a b c d e (suc (suc (suc (suc (suc k))))) l = absurd (omega arith)
 pub turned_lt : (t : Bool) (k : ℕ) → k < 5 → turned t k < 5
 turned_lt true k h = omega arith
 turned_lt false k h = h
-
-pub turned_dilating : (t : Bool) (k : ℕ) → t ≡ true → 4 - k ≡ turned t k
-turned_dilating t k e = ap (λ (b : Bool). turned b k) (sym e)
-
-pub turned_eroding : (t : Bool) (k : ℕ) → t ≡ false → k ≡ turned t k
-turned_eroding t k e = ap (λ (b : Bool). turned b k) (sym e)
 
 -- ---- joining many
 

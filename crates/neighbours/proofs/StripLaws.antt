@@ -1,24 +1,25 @@
 -- Rows of a plane loaded into a buffer, moved there, and joined to rows of another plane.
-use mathlib.Core.Bool.{Bool, ◌&&◌, and_comm, and-true, cond, false, not, true}
+use mathlib.Core.Bool.{Bool, ◌&&◌, and_comm, cond, false, not, true}
 use mathlib.Core.List.{List, ◌++◌}
 use mathlib.Core.Path.{◌∙◌, ◌≡◌, ap, ap₂, refl, subst, sym}
 use Prim.Native.Nat.{◌%◌, ◌*◌, ◌+◌, ◌-◌, ◌/◌, ◌<◌, ◌^◌, ◌≤◌, min, suc, zero, ℕ}
 use native.Mathlib.Decide.{dec_le, dec_lt}
-use native.Mathlib.Nat.{add_assoc, add_comm, add-mul, div-mul-le_self, div-one, le-div_iff_mul-le, le_refl, min_comm, min-eq_left, mul-le-mul_left, mul-le-mul_right, not-suc-le-zero, zero-add}
+use native.Mathlib.Nat.{add_assoc, add_comm, add-mul, div-mul-le_self, div-one, le-div_iff_mul-le, mul-le-mul_right, le_refl, min_comm, min-eq_left, not-suc-le-zero, zero-add}
 use native.Mathlib.Omega.{arith}
 use borrow.Author.Tests.{le-leb, le-ltb, lt-leb, lt-ltb}
-use lib.Dec.{T, eqb, leb, ltb}
+use lib.Dec.{eqb, leb, ltb}
 use lib.ListN.{get_or-append, get_or-eq_default, drop, get_or, length, length-drop, length-replicate, replicate, take}
 use lib.Pow.{shr-shr}
 use lib.Seq.{length-take-le}
 use Rattle.morphology.specs.Element.{bit}
-use Rattle.raster.specs.Limits.{max_stride}
+use Rattle.raster.specs.Frames.{Frame}
+use Rattle.raster.proofs.PackLaws.{frame_row}
 use Rattle.raster.specs.Rows.{Pixelwise, PlaneIs, RowJoined, join, read_bit, row_bit}
 use Rattle.raster.proofs.PartLaws.{PartIs, cut-bit, part_back, part-bit}
 use Rattle.raster.proofs.RowLaws.{row_in, row_bit-same, rows_in}
 use Rattle.raster.proofs.PlaneLaws.{plane-same, rows_put}
-use Rattle.neighbours.specs.Neighbours.{Moved, NearRows, PlaneJoined, column_of, five_of, is_within, joined, near_bit, neighbours, rows_bit, source, source_bit, strip_bit, turned}
-use Rattle.neighbours.proofs.NeighbourLaws.{join_assoc, joined_more, joined_same, joined-swap, joined_unit, near_same, row_kept, turned_lt, zeros-bit}
+use Rattle.neighbours.specs.Neighbours.{Moved, NearRows, PlaneJoined, column_of, five_of, is_within, joined, near_bit, neighbours, rows_bit, source_bit, strip_bit, turned}
+use Rattle.neighbours.proofs.NeighbourLaws.{join_assoc, joined_more, joined_same, joined-swap, joined_unit, row_kept, turned_lt, zeros-bit}
 use Rattle.neighbours.proofs.JoinLaws.{plane-kept, plane_more}
 
 -- ---- numbers
@@ -30,24 +31,14 @@ min_less a b = by (dec_le a b)
     by (yes l) = min-eq_left l ∙ omega arith
     by (no l) = min_comm a b ∙ min-eq_left (omega arith) ∙ omega arith
 
-pub rows-small : (m r k : ℕ) → 0 < r → m * r ≤ k → m ≤ k
-rows-small m r k h l = let q : m * 1 ≤ m * r = mul-le-mul_left m h in omega arith
-
--- bytes of a strip, and of its rows with the two above and the two below
-abbrev pub strip_bytes : ℕ
-strip_bytes = 2048
-
-abbrev pub near_bytes : ℕ
-near_bytes = strip_bytes + 4 * max_stride
-
--- as many rows as a strip has room for, of q that are left
-pub strip-rows : (r q n : ℕ) → 0 < r → r ≤ max_stride → 0 < q → n ≡ min (strip_bytes / r) q → (0 < n) × (n ≤ q) × ((n + 4) * r ≤ near_bytes)
-strip-rows r q n h k l e =
-    let m = min_less (strip_bytes / r) q in
-    let some : 1 ≤ strip_bytes / r = (le-div_iff_mul-le h).1 (omega arith) in
-    let most : n ≤ strip_bytes / r = omega arith in
-    let u : n * r ≤ strip_bytes / r * r = mul-le-mul_right r most in
-    (omega arith, omega arith, omega (arith, add-mul n 4 r, u, div-mul-le_self strip_bytes r))
+-- as many rows as a strip of 2048 bytes has room for, of q that are left
+pub strip-rows : {w h r : ℕ} (q n : ℕ) → Frame w h r → 0 < q → n ≡ min (2048 / r) q → (0 < n) × (n ≤ q) × ((n + 4) * r ≤ 2560)
+strip-rows {w} {h} {r} q n f l e =
+    let k = frame_row f in
+    let some : 1 ≤ 2048 / r = (le-div_iff_mul-le k.2).1 (omega (arith, k.3)) in
+    let most : n ≤ 2048 / r = omega arith in
+    let u : n * r ≤ 2048 / r * r = mul-le-mul_right r most in
+    (omega arith, omega arith, omega (arith, add-mul n 4 r, u, div-mul-le_self 2048 r, k.3))
 
 -- a pixel of row a + b
 rows_at : (a b r x : ℕ) → 8 * (a * r) + (8 * (b * r) + x) ≡ 8 * ((a + b) * r) + x
@@ -160,42 +151,7 @@ load_fits r h y n from rows blank hy eb ef er =
     let low = ends_low y n h (from + rows) sum in
     (rows_in blank rows (n + 4) r (ends-room y n from rows blank (ends_back y blank from eb ef) low.1), rows_in from rows h r low.0)
 
--- the rows come from the one or the other
-pub near_own : (own : Bool) (r h y n : ℕ) (image w b : List ℕ) → own ≡ true → NearRows w r h y n b → NearRows (source own image w) r h y n b
-near_own true r h y n image w b e m = m
-near_own false r h y n image w b e m = absurd (subst T (sym e) tt)
-
-pub near_other : (own : Bool) (r h y n : ℕ) (image w b : List ℕ) → own ≡ false → NearRows image r h y n b → NearRows (source own image w) r h y n b
-near_other true r h y n image w b e m = absurd (subst T e tt)
-near_other false r h y n image w b e m = m
-
 -- ---- moved
-
--- a row's first pixels, or its last, cleared
-pub within-start : (r s k : ℕ) (old new : List ℕ) → length old ≡ r → k ≡ 8 - s → s < 8 → Pixelwise old new (λ x b. b && leb k x)
-    → Pixelwise old new (λ x b. b && is_within r (x + s))
-within-start r s k old new er e l m = record {
-  size = m.size;
-  pixels = λ x lx.
-      m.pixels x lx
-      ∙ ap (λ (c : Bool). row_bit old x && c) (by x (dec_le k x) ∙ sym (and-true (leb 8 (x + s))) ∙ ap (λ (c : Bool). leb 8 (x + s) && c) (sym (lt-ltb (x + s) (8 * r + 8) (omega arith))));
-}
-  where
-    by : (x : ℕ) → Dec (k ≤ x) → leb k x ≡ leb 8 (x + s)
-    by x (yes a) = le-leb k x a ∙ sym (le-leb 8 (x + s) (omega arith))
-    by x (no a) = lt-leb k x (omega arith) ∙ sym (lt-leb 8 (x + s) (omega arith))
-
-pub within_end : (r s w : ℕ) (old new : List ℕ) → length old ≡ r → w + s ≡ 8 * r + 8 → 8 ≤ s → Pixelwise old new (λ x b. b && ltb x w)
-    → Pixelwise old new (λ x b. b && is_within r (x + s))
-within_end r s w old new er e l m = record {
-  size = m.size;
-  pixels = λ x lx.
-      m.pixels x lx ∙ ap (λ (c : Bool). row_bit old x && c) (by x (dec_lt x w) ∙ ap (λ (c : Bool). c && ltb (x + s) (8 * r + 8)) (sym (le-leb 8 (x + s) (omega arith))));
-}
-  where
-    by : (x : ℕ) → Dec (x < w) → ltb x w ≡ ltb (x + s) (8 * r + 8)
-    by x (yes a) = lt-ltb x w a ∙ sym (lt-ltb (x + s) (8 * r + 8) (omega arith))
-    by x (no a) = le-ltb x w (omega arith) ∙ sym (le-ltb (x + s) (8 * r + 8) (omega arith))
 
 -- one row more with its ends cleared
 pub rows-cleared : (r m s k : ℕ) (u v ys : List ℕ) → k ≡ r → m * r + r ≤ length v → PlaneIs 0 r m u v (λ y x. row_bit u (8 * (0 + y * r) + x) && is_within r (x + s))
@@ -206,13 +162,6 @@ rows-cleared r m s k u v ys ek h a b =
     let b' : Pixelwise (take k (drop (m * r) v)) ys (λ x b. b && is_within r (x + s)) =
     subst (λ (n : ℕ). Pixelwise (take k (drop (m * r) v)) ys (λ x b. b && is_within n (x + s))) (cut ∙ ek) b in
     rows_put 0 r m k (m * r) u v ys (λ y x b. b && is_within r (x + s)) (sym (zero-add (m * r))) ek h a b'
-
--- the moves there are
-pub moved_by : (m s : ℕ) (buf old new : List ℕ) → s ≡ m → Pixelwise old new (λ x b. row_bit buf (x + m)) → Pixelwise old new (λ x b. row_bit buf (x + s))
-moved_by m s buf old new e p = subst (λ (n : ℕ). Pixelwise old new (λ x b. row_bit buf (x + n))) (sym e) p
-
-pub last_move : (s : ℕ) → 6 ≤ s → s ≤ 10 → (s ≡ 6 → ⊥) → (s ≡ 7 → ⊥) → (s ≡ 8 → ⊥) → (s ≡ 9 → ⊥) → s ≡ 10
-last_move s a b c d e f = omega arith
 
 -- the first k bytes of a strip moved
 pub strip-first : (k s : ℕ) (buf old ys : List ℕ) → k ≤ length old → Pixelwise (take k old) ys (λ x b. row_bit buf (x + s))
@@ -247,10 +196,6 @@ module _ (buf mid : List ℕ) (s r m : ℕ) (moved : (x : ℕ) → x < 8 * (m * 
 -- what bit k of a column asks
 abbrev pub bit_asks : Bool → ℕ → (ℕ → Bool) → ℕ → Bool
 bit_asks t column rows k = cond (bit column (k * 5)) (rows (turned t k)) (not t)
-
--- a row that a column asks for lies four rows at most from the first
-pub column-room : (t : Bool) (k r q : ℕ) → k < 5 → q ≡ turned t k → q * r ≤ 4 * r
-column-room t k r q l e = let b = turned_lt t k l in mul-le-mul_right r (omega arith)
 
 pub column-none : (t : Bool) (column : ℕ) (rows : ℕ → ℕ → Bool) (a : List ℕ) → RowJoined t a a (λ x. joined t 0 (bit_asks t column (λ k. rows k x)))
 unfolding joined
@@ -410,7 +355,7 @@ strip-part t i d r h y n k e plane buf old ys ek hd near m = record {
     part = part_back d k old ys (omega arith) (m.size ∙ cut)
 
 -- m rows of a plane, then n more
-plane-rows : (t : Bool) (p r m n : ℕ) (u v w : List ℕ) (f : ℕ → ℕ → Bool) → PlaneJoined t p r m u v f → PlaneJoined t (p + m * r) r n v w (λ Y x. f (m + Y) x)
+pub plane-rows : (t : Bool) (p r m n : ℕ) (u v w : List ℕ) (f : ℕ → ℕ → Bool) → PlaneJoined t p r m u v f → PlaneJoined t (p + m * r) r n v w (λ Y x. f (m + Y) x)
     → PlaneJoined t p r (m + n) u w f
 plane-rows t p r m n u v w f a b = record {
   size = b.size ∙ a.size;
@@ -429,21 +374,3 @@ plane-rows t p r m n u v w f a b = record {
         let z : 8 * (p + y * r) + x ≡ 8 * (p + m * r + Y * r) + x = omega (arith, add-mul m Y r, ap (λ (n : ℕ). n * r) q) in
         ap (row_bit w) z ∙ b.pixels Y x (omega arith) lx
         ∙ ap₂ (join t) (ap (row_bit v) (sym z) ∙ row_bit-same v u (8 * (p + y * r) + x) (a.after ((8 * (p + y * r) + x) / 8) (omega (arith, z)))) (ap (λ (n : ℕ). f n x) q)
-
-pub plane-start : (t : Bool) (p r : ℕ) (w : List ℕ) (f : ℕ → ℕ → Bool) → PlaneJoined t p r 0 w w f
-plane-start t p r w f = record { size = refl; before = λ j l. refl; after = λ j l. refl; pixels = λ y x l k. absurd (not-suc-le-zero l) }
-
--- the next rows of a plane, of the same source
-pub plane_next : (t i own : Bool) (p r h e m n : ℕ) (image u v w : List ℕ) → h * r ≤ cond own p (length image)
-    → PlaneJoined t p r m u v (λ y x. neighbours t e (source_bit i (source own image u) r h) x y)
-    → PlaneJoined t (p + m * r) r n v w (λ Y x. neighbours t e (source_bit i (source own image v) r h) x (m + Y))
-    → PlaneJoined t p r (m + n) u w (λ y x. neighbours t e (source_bit i (source own image u) r h) x y)
-plane_next t i own p r h e m n image u v w hp a b =
-    plane-rows t p r m n u v w (λ y x. neighbours t e (source_bit i (source own image u) r h) x y) a
-    (plane-same b (λ Y x l. ap (join t (row_bit v (8 * (p + m * r + Y * r) + x)))
-    (neighbours-same t e x (m + Y) (m + Y) (source_bit i (source own image v) r h) (source_bit i (source own image u) r h)
-    (λ X k lk. ap (λ (c : Bool). cond i (not c) c) (same own hp X (m + Y + k))))))
-  where
-    same : (o : Bool) → h * r ≤ cond o p (length image) → (X Y : ℕ) → near_bit (source o image v) r h X Y ≡ near_bit (source o image u) r h X Y
-    same true q X Y = near_same v u r h (λ j z. a.before j (omega arith)) X Y
-    same false q X Y = refl

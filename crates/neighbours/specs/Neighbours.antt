@@ -8,10 +8,6 @@ use Rattle.raster.specs.Rows.{PlaneIs, join, row_bit}
 unfoldable pub near_bit : List ℕ → ℕ → ℕ → ℕ → ℕ → Bool
 near_bit plane r h X Y = leb 2 Y && (ltb (Y - 2) h && (leb 8 X && (ltb X (8 * r + 8) && row_bit plane (8 * ((Y - 2) * r) + (X - 8)))))
 
--- where the pixels come from: the first plane of a work buffer, or an image
-abbrev pub source : Bool → List ℕ → List ℕ → List ℕ
-source own image work = cond own work image
-
 -- what `near_bit` says, with foreground and background exchanged where inverse says so, outside as well
 abbrev pub source_bit : Bool → List ℕ → ℕ → ℕ → ℕ → ℕ → Bool
 source_bit inverse plane r h X Y = cond inverse (not (near_bit plane r h X Y)) (near_bit plane r h X Y)

@@ -1,11 +1,13 @@
 // What an element asks of the pixels around each pixel, joined to a plane by strips of rows.
 #![tactic(auto)]
 
-ghost use Rattle.std.specs.Prelude.{◌≡◌, not, ◌&&◌, cond, false, ◌+◌, ◌*◌, ◌<◌, ◌≤◌, min, eqb, length};
+ghost use Rattle.std.specs.Prelude.{◌≡◌, not, ◌&&◌, cond, false, ◌+◌, ◌*◌, ◌<◌, ◌≤◌, eqb, length};
 ghost use Rattle.raster.specs.Limits.{max_frame, max_stride};
 ghost use Rattle.raster.specs.Rows.{Pixelwise, PlaneIs, RowJoined, read_bit, row_bit};
-ghost use Rattle.neighbours.specs.Neighbours.{NearRows, Moved, turned, is_within, column_of, neighbours, source, source_bit, strip_bit, PlaneJoined};
+ghost use Rattle.neighbours.specs.Neighbours.{NearRows, Moved, turned, is_within, column_of, neighbours, source_bit, strip_bit, PlaneJoined};
 ghost use Rattle.neighbours.specs.Strips.{Joining, Loading, Shift, Stride};
+
+use raster::{Frame, Join};
 
 // Bytes of the rows that are joined at a time, and of these with the two rows above them and the two below.
 const STRIP: usize = 2048;
@@ -17,19 +19,7 @@ fn reflect(dilating: bool, k: usize) -> usize
     requires { k < 5 }
     ensures { result ≡ turned dilating k }
 {
-    if dilating {
-        return 4 - k;
-    }
-    k
-}
-
-fn lesser(a: usize, b: usize) -> usize
-    ensures { result ≡ min a b }
-{
-    if a < b {
-        return a;
-    }
-    b
+    if dilating { 4 - k } else { k }
 }
 
 // The rows y - 2 to y + n + 2 of a plane, background where there is no such row, into buf from its byte 1 on.
@@ -37,51 +27,26 @@ fn load_near(plane: &[u8], r: usize, h: usize, y: usize, n: usize, buf: &mut [u8
     requires { Loading plane.now r h y n buf.old }
     ensures { NearRows plane.now r h y n buf.new }
 {
-    raster::fill(buf, 0);
-    let blank = raster::less(2, y);
-    let from = raster::less(y, 2);
-    let rows = lesser(y + n + 2, h) - from;
+    buf.fill(0);
+    let blank = 2usize.saturating_sub(y);
+    let from = y.saturating_sub(2);
+    let rows = (y + n + 2).min(h) - from;
     let at = blank * r + 1;
     let a = from * r;
-    raster::copy(&plane[a..a + rows * r], &mut buf[at..at + rows * r]);
+    buf[at..at + rows * r].copy_from_slice(&plane[a..a + rows * r]);
 }
 
-// The same of the first plane of work, or of an image.
-fn load_source(
-    own: bool,
-    image: &[u8],
-    work: &[u8],
-    r: usize,
-    h: usize,
-    y: usize,
-    n: usize,
-    buf: &mut [u8],
-)
-    requires { Loading (source own image.now work.now) r h y n buf.old }
-    ensures { NearRows (source own image.now work.now) r h y n buf.new }
-{
-    if own {
-        load_near(work, r, h, y, n, buf);
-        return;
-    }
-    load_near(image, r, h, y, n, buf);
-}
-
-// Each pixel x of dst becomes pixel x + s of buf: a loop for each s, so that it shifts by constants.
+// Each pixel x of dst becomes pixel x + s of buf.
 fn move_bytes(buf: &[u8], s: u32, dst: &mut [u8])
     requires { Shift s × (length dst.old + 2 ≤ length buf.now) }
     ensures { Pixelwise dst.old dst.new (λ x b. row_bit buf.now (x + s)) }
 {
-    if s == 6 {
-        raster::move_rows(buf, 6, dst);
-    } else if s == 7 {
-        raster::move_rows(buf, 7, dst);
-    } else if s == 8 {
-        raster::move_rows(buf, 8, dst);
-    } else if s == 9 {
-        raster::move_rows(buf, 9, dst);
-    } else {
-        raster::move_rows(buf, 10, dst);
+    match s {
+        6 => raster::move_rows::<6>(buf, dst),
+        7 => raster::move_rows::<7>(buf, dst),
+        8 => raster::move_rows::<8>(buf, dst),
+        9 => raster::move_rows::<9>(buf, dst),
+        _ => raster::move_rows::<10>(buf, dst),
     }
 }
 
@@ -102,11 +67,9 @@ fn clear_ends(strip: &mut [u8], s: u32, r: usize, m: usize)
     requires { Shift s × Stride r × (m * r ≤ length strip.old) }
     ensures { PlaneIs 0 r m strip.old strip.new (λ y x. row_bit strip.old (8 * (0 + y * r) + x) && is_within r (x + s)) }
 {
-    let mut y: usize = 0;
-    while y < m {
+    for y in 0..m {
         let d = y * r;
         clear_end(&mut strip[d..d + r], s);
-        y = y + 1;
     }
 }
 
@@ -123,36 +86,33 @@ fn move_strip(buf: &[u8], s: u32, r: usize, m: usize, strip: &mut [u8])
 }
 
 // Joins the pixels of src, inverted or not, to dst where digit is 1.
-fn join_if(dilating: bool, inverse: bool, digit: u32, src: &[u8], dst: &mut [u8])
+fn join_if(how: Join, digit: u32, src: &[u8], dst: &mut [u8])
     requires { length dst.old ≤ length src.now }
-    ensures { RowJoined dilating dst.old dst.new (λ x. cond (eqb digit 1) (read_bit inverse src.now x) (not dilating)) }
+    ensures { RowJoined how.dilating dst.old dst.new (λ x. cond (eqb digit 1) (read_bit how.inverse src.now x) (not how.dilating)) }
 {
     if digit == 1 {
-        raster::join_rows(dilating, inverse, src, dst);
+        raster::join_rows(how, src, dst);
     }
 }
 
 // Joins a column of the element, its bits 0, 5, 10, 15 and 20, of the moved rows in strip to dst.
-fn join_column(dilating: bool, inverse: bool, strip: &[u8], r: usize, column: u32, dst: &mut [u8])
+fn join_column(how: Join, strip: &[u8], r: usize, column: u32, dst: &mut [u8])
     requires { (r ≤ max_stride) × (4 * r + length dst.old ≤ length strip.now) }
-    ensures { RowJoined dilating dst.old dst.new
-        (λ x. column_of dilating column (λ k. read_bit inverse strip.now (8 * (k * r) + x))) }
+    ensures { RowJoined how.dilating dst.old dst.new
+        (λ x. column_of how.dilating column (λ k. read_bit how.inverse strip.now (8 * (k * r) + x))) }
 {
     let n = dst.len();
     let mut rest = column;
-    let mut k: usize = 0;
-    while k < 5 {
-        let at = reflect(dilating, k) * r;
-        join_if(dilating, inverse, rest % 2, &strip[at..at + n], dst);
-        rest = rest / 32;
-        k = k + 1;
+    for k in 0..5 {
+        let at = reflect(how.dilating, k) * r;
+        join_if(how, rest % 2, &strip[at..at + n], dst);
+        rest /= 32;
     }
 }
 
 // Joins column j of the element, bits 0, 5, 10, 15 and 20 of column, of the rows in buf to the n rows of dst.
 fn join_moved(
-    dilating: bool,
-    inverse: bool,
+    how: Join,
     buf: &[u8],
     strip: &mut [u8],
     r: usize,
@@ -162,8 +122,8 @@ fn join_moved(
     dst: &mut [u8],
 )
     requires { (j < 5) × Joining r n buf.now strip.old dst.old }
-    ensures { PlaneJoined dilating 0 r n dst.old dst.new
-        (λ y x. column_of dilating column (λ k. strip_bit inverse buf.now r (x + (turned dilating j + 6)) (y + k))) }
+    ensures { PlaneJoined how.dilating 0 r n dst.old dst.new
+        (λ y x. column_of how.dilating column (λ k. strip_bit how.inverse buf.now r (x + (turned how.dilating j + 6)) (y + k))) }
 {
     let points = column % 2
         + column / 32 % 2
@@ -174,14 +134,13 @@ fn join_moved(
     if empty {
         return;
     }
-    move_strip(buf, reflect(dilating, j) as u32 + 6, r, n + 4, strip);
-    join_column(dilating, inverse, &strip[..], r, column, dst);
+    move_strip(buf, reflect(how.dilating, j) as u32 + 6, r, n + 4, strip);
+    join_column(how, &strip[..], r, column, dst);
 }
 
 // Joins what the element asks of the rows in buf to the n rows of dst, a column of the element at a time.
 fn join_strip(
-    dilating: bool,
-    inverse: bool,
+    how: Join,
     buf: &[u8],
     strip: &mut [u8],
     r: usize,
@@ -190,26 +149,21 @@ fn join_strip(
     dst: &mut [u8],
 )
     requires { Joining r n buf.now strip.old dst.old }
-    ensures { PlaneJoined dilating 0 r n dst.old dst.new
-        (λ y x. neighbours dilating element (strip_bit inverse buf.now r) x y) }
+    ensures { PlaneJoined how.dilating 0 r n dst.old dst.new
+        (λ y x. neighbours how.dilating element (strip_bit how.inverse buf.now r) x y) }
 {
     let mut rest = element;
-    let mut j: usize = 0;
-    while j < 5 {
-        join_moved(dilating, inverse, buf, strip, r, n, j, rest, dst);
-        rest = rest / 2;
-        j = j + 1;
+    for j in 0..5 {
+        join_moved(how, buf, strip, r, n, j, rest, dst);
+        rest /= 2;
     }
 }
 
-// Joins what the element asks of the source to the rows y to y + n of the plane at p.
+// Joins what the element asks of an image to the rows y to y + n of out.
 fn join_near(
-    dilating: bool,
-    inverse: bool,
-    own: bool,
+    how: Join,
     image: &[u8],
-    work: &mut [u8],
-    p: usize,
+    out: &mut [u8],
     r: usize,
     h: usize,
     y: usize,
@@ -218,59 +172,29 @@ fn join_near(
     buf: &mut [u8],
     strip: &mut [u8],
 )
-    requires { Loading (source own image.now work.old) r h y n buf.old × (0 < r) × (p + h * r ≤ length work.old)
-        × ((n + 4) * r ≤ length strip.old) }
-    ensures { PlaneJoined dilating (p + y * r) r n work.old work.new
-        (λ Y x. neighbours dilating element (source_bit inverse (source own image.now work.old) r h) x (y + Y)) }
+    requires { Loading image.now r h y n buf.old × (0 < r) × (h * r ≤ length out.old) × ((n + 4) * r ≤ length strip.old) }
+    ensures { PlaneJoined how.dilating (0 + y * r) r n out.old out.new
+        (λ Y x. neighbours how.dilating element (source_bit how.inverse image.now r h) x (y + Y)) }
 {
-    load_source(own, image, &work[..], r, h, y, n, buf);
-    let d = p + y * r;
-    join_strip(
-        dilating,
-        inverse,
-        &buf[..],
-        strip,
-        r,
-        n,
-        element,
-        &mut work[d..d + n * r],
-    );
+    load_near(image, r, h, y, n, buf);
+    let d = y * r;
+    join_strip(how, &buf[..], strip, r, n, element, &mut out[d..d + n * r]);
 }
 
-// Joins what the element asks of the source, the first plane of work or an image, to each row of the plane at p, a strip at a time.
-pub fn join_plane(
-    dilating: bool,
-    inverse: bool,
-    own: bool,
-    image: &[u8],
-    work: &mut [u8],
-    p: usize,
-    r: usize,
-    h: usize,
-    element: u32,
-)
-    requires { (h * r ≤ cond own p (length image.now)) × (p + h * r ≤ length work.old) × (0 < r) × (r ≤ max_stride) × (h ≤ max_frame) }
-    ensures { PlaneJoined dilating p r h work.old work.new
-        (λ y x. neighbours dilating element (source_bit inverse (source own image.now work.old) r h) x y) }
+// Joins what the element asks of an image to each row of out, a strip at a time.
+pub fn join_plane(how: Join, image: &[u8], out: &mut [u8], f: Frame, element: u32)
+    requires { (f.h * f.r ≤ length image.now) × (f.h * f.r ≤ length out.old) }
+    ensures { PlaneJoined how.dilating 0 f.r f.h out.old out.new
+        (λ y x. neighbours how.dilating element (source_bit how.inverse image.now f.r f.h) x y) }
 {
+    let Frame { h, r, .. } = f;
     let mut buf = [0u8; NEAR + 2];
     let mut strip = [0u8; NEAR];
     let most = STRIP / r;
     let mut y: usize = 0;
     while y < h {
-        let n = lesser(most, h - y);
-        join_near(
-            dilating, inverse, own, image, work, p, r, h, y, n, element, &mut buf, &mut strip,
-        );
-        y = y + n;
+        let n = most.min(h - y);
+        join_near(how, image, out, r, h, y, n, element, &mut buf, &mut strip);
+        y += n;
     }
-}
-
-// Joins what a mask asks of an image to each row of out: its element of the foreground, or, inverse, of the background.
-pub fn join_mask(inverse: bool, image: &[u8], out: &mut [u8], r: usize, h: usize, element: u32)
-    requires { (h * r ≤ length image.now) × (h * r ≤ length out.old) × (0 < r) × (r ≤ max_stride) × (h ≤ max_frame) }
-    ensures { PlaneJoined false 0 r h out.old out.new
-        (λ y x. neighbours false element (source_bit inverse image.now r h) x y) }
-{
-    join_plane(false, inverse, false, image, out, 0, r, h, element);
 }

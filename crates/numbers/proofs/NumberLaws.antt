@@ -1,13 +1,11 @@
 -- Counters and their bytes, element by element.
-use mathlib.Core.Bool.{Bool, cond}
+use mathlib.Core.Bool.{cond}
 use mathlib.Core.List.{List, [], ◌∷◌}
-use mathlib.Core.Path.{◌∙◌, ◌≡◌, ap, ap₂, refl, subst, sym}
+use mathlib.Core.Path.{◌∙◌, ◌≡◌, ap₂, refl}
 use Prim.Native.Nat.{◌%◌, ◌*◌, ◌+◌, ◌/◌, ◌<◌, suc, ℕ}
 use native.Mathlib.Omega.{arith}
-use borrow.Author.Tests.{eq-eqb, ne_eqb}
 use lib.Dec.{eqb}
-use lib.ListN.{get_or, length, set}
-use Rattle.raster.proofs.LoopLaws.{Mapped, mapped_more}
+use lib.ListN.{get_or, length}
 use Rattle.numbers.specs.Numbers.{counter_bytes, counters_of}
 
 -- the number of the bytes 2j and 2j + 1
@@ -53,22 +51,3 @@ counters-written (n ∷ c) (a ∷ b ∷ s) e f =
         let d : suc (suc k) / 2 ≡ suc (k / 2) = omega arith in
         let m : suc (suc k) % 2 ≡ k % 2 = omega arith in
         ap₂ (λ (p q : ℕ). cond (eqb p 0) (get_or (n ∷ c) q 0 % 256) (get_or (n ∷ c) q 0 / 256)) m d
-
--- a turn stores the two bytes of a counter
-pub bytes_more : (c s₀ s : List ℕ) (i : ℕ) → length s₀ ≡ 2 * length c → i < length c → Mapped (byte_at c) s₀ s (2 * i)
-    → Mapped (byte_at c) s₀ (set (set s (2 * i) (get_or c i 0 % 256)) (2 * i + 1) (get_or c i 0 / 256)) (2 * (i + 1))
-bytes_more c s₀ s i e h m =
-    subst (λ (n : ℕ). Mapped (byte_at c) s₀ (set (set s (2 * i) (get_or c i 0 % 256)) (2 * i + 1) (get_or c i 0 / 256)) n) (omega arith)
-    (mapped_more _ (omega arith) (sym (odd i)) (mapped_more _ (omega arith) (sym (even i)) m))
-  where
-    even : (i : ℕ) → byte_at c (2 * i) ≡ get_or c i 0 % 256
-    even i =
-        let q : 2 * i / 2 ≡ i = omega arith in
-        ap (λ (b : Bool). cond b (get_or c (2 * i / 2) 0 % 256) (get_or c (2 * i / 2) 0 / 256)) (eq-eqb (2 * i % 2) 0 (omega arith))
-        ∙ ap (λ (j : ℕ). get_or c j 0 % 256) q
-
-    odd : (i : ℕ) → byte_at c (2 * i + 1) ≡ get_or c i 0 / 256
-    odd i =
-        let q : (2 * i + 1) / 2 ≡ i = omega arith in
-        ap (λ (b : Bool). cond b (get_or c ((2 * i + 1) / 2) 0 % 256) (get_or c ((2 * i + 1) / 2) 0 / 256)) (ne_eqb ((2 * i + 1) % 2) 0 (λ z. omega arith))
-        ∙ ap (λ (j : ℕ). get_or c j 0 / 256) q

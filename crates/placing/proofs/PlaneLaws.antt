@@ -10,6 +10,7 @@ use lib.Arith.{digits_div, digits_mod}
 use lib.Dec.{T}
 use lib.ListN.{drop, get_or, length, length-drop, length-map, take}
 use lib.Seq.{ext_get_or, length-take-le}
+use Rattle.std.specs.Prelude.{Option, Some}
 use Rattle.morphology.specs.Image.{image_set, is_clean, pixel, stride}
 use Rattle.morphology.specs.Labels.{area, place, places}
 use Rattle.morphology.specs.Lists.{count_of, every_of, tabulate, up_to}
@@ -27,7 +28,8 @@ use Rattle.reading.specs.declared.Next.TheVariants.{Run}
 use Rattle.reading.proofs.SeekLaws.{free_of, skip_all, sought-place}
 use Rattle.sections.proofs.KindLaws.{row_agree}
 use Rattle.placing.specs.Planes.{PixelsSought, PixelsWalked, pixels_at, plane_place, row_place}
-use Rattle.placing.proofs.WalkLaws.{Increasing, Over, sought-none, walk_more, walk-over, walk_sized}
+use Rattle.seeking.proofs.OnwardLaws.{Over}
+use Rattle.placing.proofs.WalkLaws.{Increasing, sought-none, walk_more, walk-over, walk_sized}
 
 -- ---- where the pixels are
 
@@ -79,7 +81,7 @@ module _ {w h r : ℕ} (f : Frame w h r) where
       by (no c) (no d) = let q : i / w ≡ y = omega arith in omega (arith, ap (λ (k : ℕ). k * r) q, mod-lt i f.wide)
 
   -- so a clean plane stays clean
-  pub sought-clean : {s : List ℕ} {limit n : ℕ} {t : Seek} {old new : List ℕ} {next : Next} → PixelsSought s limit n (plane_place w r) t old new next
+  pub sought-clean : {s : List ℕ} {limit n : ℕ} {t : Seek} {old new : List ℕ} {next : Option Next} → PixelsSought s limit n (plane_place w r) t old new next
       → T (is_clean w h old) → T (is_clean w h new)
   unfolding is_clean
   sought-clean {s} {limit} {n} {t} {old} {new} {next} p clean =
@@ -103,22 +105,17 @@ pub rows-within : (y n h w : ℕ) → y + n ≤ h → (y + n) * w ≤ w * h
 rows-within y n h w l = subst (λ (k : ℕ). (y + n) * w ≤ k) (mul_comm h w) (mul-le-mul_right w l)
 
 -- n rows more, of m pixels
-pub rows_more : {w h r limit left at k j m : ℕ} {s : List ℕ} {q : ℕ → ℕ} {old mid new : List ℕ} {next : Next} (y n : ℕ) → Frame w h r → m ≡ n * w
-    → ((i : ℕ) → i < m → q i ≡ plane_place w r (y * w + i)) → PixelsWalked s limit (y * w) (plane_place w r) left at old mid (Run k j)
+pub rows_more : {w h r limit left at k j m : ℕ} {s : List ℕ} {q : ℕ → ℕ} {old mid new : List ℕ} {next : Option Next} (y n : ℕ) → Frame w h r → m ≡ n * w
+    → ((i : ℕ) → i < m → q i ≡ plane_place w r (y * w + i)) → PixelsWalked s limit (y * w) (plane_place w r) left at old mid (Some (Run k j))
     → PixelsWalked s limit m q k j mid new next → PixelsWalked s limit ((y + n) * w) (plane_place w r) left at old new next
 rows_more {w} {h} {r} {limit} {left} {at} {k} {j} {m} {s} {q} {old} {mid} {new} {next} y n f e after a b =
     let z : y * w + m ≡ (y + n) * w = omega (arith, add-mul y n w) in
     walk_sized z (walk_more (place_rising f) after a b)
 
 -- after them nothing follows that is a run
-pub rows-over : {w h r limit left at : ℕ} {s : List ℕ} {old new : List ℕ} {e next : Next} (y n : ℕ) → Frame w h r → y + n ≤ h → e ≡ next → Over next
-    → PixelsWalked s limit ((y + n) * w) (plane_place w r) left at old new e → PixelsWalked s limit (w * h) (plane_place w r) left at old new next
-rows-over {w} {h} y n f l q o a = walk-over (w * h) (rows-within y n h w l) (place_rising f) q o a
-
--- all h
-pub rows_all : {w h r limit left at : ℕ} {s : List ℕ} {old new : List ℕ} {next : Next} (y : ℕ) → Frame w h r → y ≡ h
-    → PixelsWalked s limit (y * w) (plane_place w r) left at old new next → PixelsWalked s limit (w * h) (plane_place w r) left at old new next
-rows_all {w} {h} y f e a = walk_sized (ap (λ (k : ℕ). k * w) e ∙ mul_comm h w) a
+pub rows-over : {w h r limit left at : ℕ} {s : List ℕ} {old new : List ℕ} {next : Option Next} (y n : ℕ) → Frame w h r → y + n ≤ h → Over next
+    → PixelsWalked s limit ((y + n) * w) (plane_place w r) left at old new next → PixelsWalked s limit (w * h) (plane_place w r) left at old new next
+rows-over {w} {h} y n f l o a = walk-over (w * h) (rows-within y n h w l) (place_rising f) o a
 
 -- ---- the pixels of a clean plane are its set
 
@@ -166,7 +163,7 @@ free-plane {w} {h} {r} s m f clean e =
 
 -- a walk over it, all within a run
 pub plane_passed : {w h r limit left : ℕ} (s : List ℕ) (at m : ℕ) (old : List ℕ) → Frame w h r → T (is_clean w h old) → m ≡ area w h (image_set w h old)
-    → w * h - m ≤ left → left < limit → PixelsWalked s limit (w * h) (plane_place w r) left at old old (Run (left - (w * h - m)) at)
+    → w * h - m ≤ left → left < limit → PixelsWalked s limit (w * h) (plane_place w r) left at old old (Some (Run (left - (w * h - m)) at))
 plane_passed {w} {h} {r} {limit} {left} s at m old f clean e l k =
     let n = free-plane old m f clean e in
     let q = skip_all limit left (pixels_at old (plane_place w r) (w * h)) (drop at s) (omega arith) in
@@ -183,7 +180,7 @@ module _ (n : ℕ) (p : ℕ → ℕ) (old : List ℕ) (a k : ℕ) (inside : a + 
       row_agree (λ i. row_bit (take k (drop a old)) (p i)) (λ i. row_bit old (8 * a + p i)) 0 0 n (λ i l.
       cut-bit a k old (p (0 + i)) (within (0 + i) (omega arith)))
 
-  sought-lent : {s : List ℕ} {limit : ℕ} {t : Seek} {ys : List ℕ} {next : Next} → PixelsSought s limit n p t (take k (drop a old)) ys next
+  sought-lent : {s : List ℕ} {limit : ℕ} {t : Seek} {ys : List ℕ} {next : Option Next} → PixelsSought s limit n p t (take k (drop a old)) ys next
       → PixelsSought s limit n (λ i. 8 * a + p i) t old (take a old ++ (ys ++ drop k (drop a old))) next
   sought-lent {s} {limit} {t} {ys} {next} b = record {
     size = part.size;
@@ -209,6 +206,6 @@ module _ (n : ℕ) (p : ℕ → ℕ) (old : List ℕ) (a k : ℕ) (inside : a + 
           ap (row_bit new) (sym g) ∙ part-bit part z (omega arith) ∙ b.others z (λ i l h. f i l (ap (λ (j : ℕ). 8 * a + j) h ∙ g))
           ∙ cut-bit a k old z (omega arith) ∙ ap (row_bit old) g
 
-  pub walk-lent : {s : List ℕ} {limit left at : ℕ} {ys : List ℕ} {next : Next} → PixelsWalked s limit n p left at (take k (drop a old)) ys next
+  pub walk-lent : {s : List ℕ} {limit left at : ℕ} {ys : List ℕ} {next : Option Next} → PixelsWalked s limit n p left at (take k (drop a old)) ys next
       → PixelsWalked s limit n (λ i. 8 * a + p i) left at old (take a old ++ (ys ++ drop k (drop a old))) next
   walk-lent b = record { found = sought-lent b.found; moved = b.moved }

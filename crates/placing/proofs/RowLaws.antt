@@ -1,7 +1,7 @@
 -- Words of pixels in rows of bytes, read and written.
 use mathlib.Core.Bool.{Bool, ◌||◌, false, or-false, true}
 use mathlib.Core.List.{List}
-use mathlib.Core.Path.{◌∙◌, ◌≡◌, ap, ap₂, refl, subst₂, sym}
+use mathlib.Core.Path.{◌∙◌, ◌≡◌, ap, ap₂, refl, subst, subst₂, sym}
 use Prim.Native.Nat.{◌%◌, ◌*◌, ◌+◌, ◌-◌, ◌/◌, ◌<◌, ◌^◌, ◌≤◌, suc, zero, ℕ}
 use native.Mathlib.Decide.{dec_lt}
 use native.Mathlib.Nat.{add-zero, div-one, zero-add}
@@ -9,8 +9,10 @@ use native.Mathlib.Omega.{arith}
 use lib.Bits.{bit_or}
 use lib.Dec.{eqb}
 use lib.ListN.{get_or, length, length-set, set}
-use lib.Pow.{shl_exact, shl_lt, shl-shr, shr-shr}
+use lib.Pow.{shl_exact, shl_lt, shl-shr}
 use lib.Seq.{ext_get_or, get_or-set_other, get_or-set_same}
+use Rattle.std.specs.Int.{to_be_bytes, w64}
+use Rattle.std.specs.Prelude.{Option}
 use Rattle.morphology.specs.Element.{bit}
 use Rattle.morphology.specs.Image.{bit_of}
 use Rattle.morphology.specs.Lists.{tabulate}
@@ -48,72 +50,78 @@ bits-table f m v h =
 abbrev pub word_byte : ℕ → ℕ → ℕ → ℕ
 word_byte n v j = v / 2 ^ (8 * (n - 1 - j)) % 256
 
--- the n bytes of v joined to those at a, from byte k on; u is what is left of v
-pub record BytesJoined (a n v k u : ℕ) (old new : List ℕ) : Type 0 where
-  pub few : k ≤ n
-  pub left : u ≡ v / 2 ^ (8 * (n - k))
+-- `to_be_bytes` has the eight of them
+byte-of : (v j : ℕ) → j < 8 → get_or (to_be_bytes w64 v) j 0 ≡ word_byte 8 v j
+byte-of v zero h = refl
+byte-of v (suc zero) h = refl
+byte-of v (suc (suc zero)) h = refl
+byte-of v (suc (suc (suc zero))) h = refl
+byte-of v (suc (suc (suc (suc zero)))) h = refl
+byte-of v (suc (suc (suc (suc (suc zero))))) h = refl
+byte-of v (suc (suc (suc (suc (suc (suc zero)))))) h = refl
+byte-of v (suc (suc (suc (suc (suc (suc (suc zero))))))) h = ap (λ (q : ℕ). q % 256) (sym (div-one v))
+byte-of v (suc (suc (suc (suc (suc (suc (suc (suc j)))))))) h = absurd (omega arith)
+
+-- the last n
+pub last_byte : (n v j : ℕ) → n ≤ 8 → j < n → get_or (to_be_bytes w64 v) (8 - n + j) 0 ≡ word_byte n v j
+last_byte n v j h l =
+    let e : 8 - 1 - (8 - n + j) ≡ n - 1 - j = omega arith in
+    byte-of v (8 - n + j) (omega arith) ∙ ap (λ (q : ℕ). v / 2 ^ (8 * q) % 256) e
+
+-- the first i of the n bytes of v joined to those at a
+pub record BytesJoined (a n v i : ℕ) (old new : List ℕ) : Type 0 where
   pub size : length new ≡ length old
-  pub joined : (j : ℕ) → k ≤ j → j < n → get_or new (a + j) 0 ≡ bit_or (get_or old (a + j) 0) (word_byte n v j)
-  pub before : (j : ℕ) → j < a + k → get_or new j 0 ≡ get_or old j 0
-  pub after : (j : ℕ) → a + n ≤ j → get_or new j 0 ≡ get_or old j 0
+  pub joined : (j : ℕ) → j < i → get_or new (a + j) 0 ≡ bit_or (get_or old (a + j) 0) (word_byte n v j)
+  pub before : (j : ℕ) → j < a → get_or new j 0 ≡ get_or old j 0
+  pub after : (j : ℕ) → a + i ≤ j → get_or new j 0 ≡ get_or old j 0
 
 -- none yet
-pub bytes-none : (a n v : ℕ) (s : List ℕ) → BytesJoined a n v n v s s
+pub bytes-none : (a n v : ℕ) (s : List ℕ) → BytesJoined a n v 0 s s
 bytes-none a n v s = record {
-  few = omega arith;
-  left = let e : 0 ≡ 8 * (n - n) = omega arith in sym (div-one v) ∙ ap (λ (q : ℕ). v / 2 ^ q) e;
   size = refl;
-  joined = λ j k l. absurd (omega arith);
+  joined = λ j l. absurd (omega arith);
   before = λ j l. refl;
   after = λ j l. refl;
 }
 
 -- one more
-pub bytes_more : {a n v k u : ℕ} {old new : List ℕ} → 0 < k → a + n ≤ length old → BytesJoined a n v k u old new
-    → BytesJoined a n v (k - 1) (u / 256) old (set new (a + (k - 1)) (bit_or (get_or new (a + (k - 1)) 0) (u % 256)))
-bytes_more {a} {n} {v} {k} {u} {old} {new} h0 hl p =
-    let f = p.few in
-    record {
-      few = omega arith;
-      left =
-          let e : 8 * (n - k) + 8 ≡ 8 * (n - (k - 1)) = omega arith in
-          ap (λ (q : ℕ). q / 256) p.left ∙ shr-shr v (8 * (n - k)) 8 ∙ ap (λ (q : ℕ). v / 2 ^ q) e;
-      size = length-set new i b ∙ p.size;
-      joined = λ j l m. by j l m (dec_lt j k);
-      before = λ j l. get_or-set_other new i j b 0 (λ e. omega arith) ∙ p.before j (omega arith);
-      after = λ j l. get_or-set_other new i j b 0 (λ e. omega arith) ∙ p.after j l;
-    }
+pub bytes_more : {a n v i : ℕ} {old new : List ℕ} (b : ℕ) → a + i < length old → b ≡ word_byte n v i → BytesJoined a n v i old new
+    → BytesJoined a n v (i + 1) old (set new (a + i) (bit_or (get_or new (a + i) 0) b))
+bytes_more {a} {n} {v} {i} {old} {new} b l e p = record {
+  size = length-set new (a + i) (bit_or (get_or new (a + i) 0) b) ∙ p.size;
+  joined = λ j m. by j m (dec_lt j i);
+  before = λ j m. other j (λ e. omega arith) ∙ p.before j m;
+  after = λ j m. other j (λ e. omega arith) ∙ p.after j (omega arith);
+}
   where
-    i : ℕ
-    i = a + (k - 1)
+    w : ℕ
+    w = bit_or (get_or new (a + i) 0) b
 
-    b : ℕ
-    b = bit_or (get_or new i 0) (u % 256)
+    other : (j : ℕ) → (j ≡ a + i → ⊥) → get_or (set new (a + i) w) j 0 ≡ get_or new j 0
+    other j f = get_or-set_other new (a + i) j w 0 f
 
-    by : (j : ℕ) → k - 1 ≤ j → j < n → Dec (j < k) → get_or (set new i b) (a + j) 0 ≡ bit_or (get_or old (a + j) 0) (word_byte n v j)
-    by j l m (yes d) =
-        let e : a + j ≡ i = omega arith in
-        let z : 8 * (n - k) ≡ 8 * (n - 1 - j) = omega arith in
-        ap (λ (q : ℕ). get_or (set new i b) q 0) e ∙ get_or-set_same new i b 0 (omega (arith, p.size))
-        ∙ ap₂ bit_or (p.before i (omega arith) ∙ ap (λ (q : ℕ). get_or old q 0) (sym e))
-        (ap (λ (q : ℕ). q % 256) (p.left ∙ ap (λ (q : ℕ). v / 2 ^ q) z))
-    by j l m (no d) = get_or-set_other new i (a + j) b 0 (λ e. omega arith) ∙ p.joined j (omega arith) m
+    by : (j : ℕ) → j < i + 1 → Dec (j < i) → get_or (set new (a + i) w) (a + j) 0 ≡ bit_or (get_or old (a + j) 0) (word_byte n v j)
+    by j m (yes d) = other (a + j) (λ e. omega arith) ∙ p.joined j d
+    by j m (no d) =
+        let z : i ≡ j = omega arith in
+        subst (λ (j : ℕ). get_or (set new (a + i) w) (a + j) 0 ≡ bit_or (get_or old (a + j) 0) (word_byte n v j)) z
+        (get_or-set_same new (a + i) w 0 (omega (arith, p.size)) ∙ ap₂ bit_or (p.after (a + i) (omega arith)) e)
 
 -- all, as pixels
-pub bytes_all : (a n v k u : ℕ) (old new : List ℕ) → k ≡ 0 → BytesJoined a n v k u old new
+pub bytes_all : (a n v i : ℕ) (old new : List ℕ) → i ≡ n → BytesJoined a n v i old new
     → RowIs a n old new (λ x. row_bit old (8 * a + x) || bit v (8 * n - 1 - x))
 unfolding bit_of
-bytes_all a n v k u old new z p = record {
+bytes_all a n v i old new z p = record {
   size = p.size;
-  before = λ j l. p.before j (omega arith);
-  after = p.after;
+  before = p.before;
+  after = λ j l. p.after j (omega arith);
   pixels = λ x l.
       let j = x / 8 in
       let i = x % 8 in
       let h : i < 8 = omega arith in
       let e : 8 * a + x ≡ 8 * (a + j) + i = omega arith in
       let f : 7 - i + 8 * (n - 1 - j) ≡ 8 * n - 1 - x = omega arith in
-      ap (row_bit new) e ∙ row_bit-at new (a + j) i h ∙ ap (λ (q : ℕ). bit_of q i) (p.joined j (omega arith) (omega arith))
+      ap (row_bit new) e ∙ row_bit-at new (a + j) i h ∙ ap (λ (q : ℕ). bit_of q i) (p.joined j (omega arith))
       ∙ join-bit true (get_or old (a + j) 0) (word_byte n v j) i
       ∙ ap₂ ◌||◌ (sym (ap (row_bit old) e ∙ row_bit-at old (a + j) i h))
       (bit_low (v / 2 ^ (8 * (n - 1 - j))) 8 (7 - i) (omega arith) ∙ bit_high v (8 * (n - 1 - j)) (7 - i) ∙ ap (bit v) f);
@@ -156,7 +164,7 @@ shifted_exact n m v s h l =
     (x, subst₂ (λ (a b : ℕ). a < 2 ^ b) (sym x) e (shl_lt m k s))
 
 -- the walk over m pixels of n bytes, where its points are joined to the bytes
-pub few-sought : {s : List ℕ} {limit : ℕ} {t : Seek} {next : Next} (a n m mask v u : ℕ) (old new : List ℕ) → m ≤ 8 * n → Word old (8 * a) m mask
+pub few-sought : {s : List ℕ} {limit : ℕ} {t : Seek} {next : Option Next} (a n m mask v u : ℕ) (old new : List ℕ) → m ≤ 8 * n → Word old (8 * a) m mask
     → WordSought s limit m (word_bits m mask) t v next → u ≡ v * 2 ^ (8 * n - m)
     → RowIs a n old new (λ x. row_bit old (8 * a + x) || bit u (8 * n - 1 - x))
     → PixelsSought s limit m (row_place a) t old new next

@@ -10,6 +10,7 @@ use lib.Arith.{digits_lt}
 use lib.Dec.{T}
 use lib.IntN.{pos}
 use lib.ListN.{drop, get_or, length}
+use Rattle.std.specs.Prelude.{None, Option, Some}
 use Rattle.coding.specs.Runs.{unmasked}
 use Rattle.morphology.specs.Image.{image_set, is_clean, pack}
 use Rattle.morphology.specs.Labels.{place, places}
@@ -25,14 +26,13 @@ use Rattle.reading.specs.Points.{among}
 use Rattle.reading.specs.Seeking.{Seek, first_run, selected, size_found, sought_all, sought_points}
 use Rattle.reading.specs.Taking.{read_size}
 use Rattle.reading.specs.declared.Next.{Next}
-use Rattle.reading.specs.declared.Next.TheVariants.{Ended, Lost, Run}
-use Rattle.reading.proofs.SeekLaws.{among-place, first_below, seek-size}
+use Rattle.reading.specs.declared.Next.TheVariants.{Ended, Run}
+use Rattle.reading.proofs.SeekLaws.{among-place, seek-size}
 use Rattle.placing.specs.Planes.{PixelsSought, PixelsWalked, SizeRead, pixels_at, plane_place}
 use Rattle.seeking.specs.Words.{Advanced}
-use Rattle.placing.specs.declared.Section.{Section}
-use Rattle.placing.specs.declared.Section.TheVariants.{Bad, End}
+use Rattle.seeking.proofs.OnwardLaws.{Over}
 use Rattle.placing.proofs.PlaneLaws.{image-pixels, length-places, place-digits, place_unpadded}
-use Rattle.placing.proofs.WalkLaws.{Over, over_none, walk_as}
+use Rattle.placing.proofs.WalkLaws.{over_none}
 
 -- ---- the set of the marked places
 
@@ -61,7 +61,7 @@ unmarked-at w h marks x y h0 hx = false_of (among (selected (places w h) marks) 
 
 -- ---- the size
 
-module _ {w h r : ℕ} {s : List ℕ} {next : Next} (j : ℕ) (old new : List ℕ) (f : Frame w h r) (clean : T (is_clean w h old))
+module _ {w h r : ℕ} {s : List ℕ} {next : Option Next} (j : ℕ) (old new : List ℕ) (f : Frame w h r) (clean : T (is_clean w h old))
     (p : PixelsSought s (w * h) (w * h) (plane_place w r) (first_run (w * h) (drop j s)) old new next) where
   -- the marks of its points, and these
   marks : List Bool
@@ -99,52 +99,49 @@ module _ {w h r : ℕ} {s : List ℕ} {next : Next} (j : ℕ) (old new : List �
 
 -- ---- what the code answers
 
-abbrev pub section_of : Next → Section
-section_of Lost = Bad
-section_of (Ended end) = End end
-section_of (Run left i) = Bad
+abbrev pub section_of : Option Next → Option ℕ
+section_of None = None
+section_of (Some (Ended end)) = Some end
+section_of (Some (Run left i)) = None
 
 -- a size of n pixels from symbol j on has so many symbols
-abbrev Reached : ℕ → ℕ → Next → Type 0
-Reached n j Lost = Unit {0}
-Reached n j (Ended end) = end ≤ j + 2 * n + 2
-Reached n j (Run left i) = Unit {0}
+abbrev Reached : ℕ → ℕ → Option Next → Type 0
+Reached n j None = Unit {0}
+Reached n j (Some (Ended end)) = end ≤ j + 2 * n + 2
+Reached n j (Some (Run left i)) = Unit {0}
 
-reached : (next : Next) (limit n j left i : ℕ) → i ≤ j + left + 2 → Advanced limit n left i next → Reached n j next
-reached Lost limit n j left i k m = tt
-reached (Ended end) limit n j left i k m = omega arith
-reached (Run left' i') limit n j left i k m = tt
+reached : (next : Option Next) (limit n j left i : ℕ) → i ≤ j + left + 2 → Advanced limit n left i next → Reached n j next
+reached None limit n j left i k m = tt
+reached (Some (Ended end)) limit n j left i k m = omega arith
+reached (Some (Run left' i')) limit n j left i k m = tt
 
-reached_once : (next : Next) (n j : ℕ) → Over next → Nearby j next → Reached n j next
-reached_once Lost n j o b = tt
-reached_once (Ended end) n j o b = omega arith
-reached_once (Run left i) n j o b = tt
+reached_once : (next : Option Next) (n j : ℕ) → Over next → Nearby j next → Reached n j next
+reached_once None n j o b = tt
+reached_once (Some (Ended end)) n j o b = omega arith
+reached_once (Some (Run left i)) n j o b = tt
 
 -- what a size begins with, and the plane
-module _ {w h r : ℕ} (s : List ℕ) (j : ℕ) {first : Next} (a : next_of s first ≡ first_run (w * h) (drop j s)) (b : Nearby j first)
-    (old : List ℕ) (f : Frame w h r) (clean : T (is_clean w h old)) (len : length old ≡ h * r) where
-  size_read : (next t : Next) (new : List ℕ) → first ≡ t → PixelsSought s (w * h) (w * h) (plane_place w r) (next_of s t) old new next
-      → Reached (w * h) j next → ((i : ℕ) → get_or new i 0 < 256) → SizeRead s w h j old new (section_of next)
-  size_read next t new q p = by next (subst (λ (u : Seek). PixelsSought s (w * h) (w * h) (plane_place w r) u old new next) (ap (next_of s) (sym q) ∙ a) p)
+module _ {w h r : ℕ} (s : List ℕ) (j : ℕ) (old : List ℕ) (f : Frame w h r) (clean : T (is_clean w h old)) (len : length old ≡ h * r) where
+  size_read : (first next : Option Next) (new : List ℕ) → next_of s first ≡ first_run (w * h) (drop j s)
+      → PixelsSought s (w * h) (w * h) (plane_place w r) (next_of s first) old new next → Reached (w * h) j next → ((i : ℕ) → get_or new i 0 < 256)
+      → SizeRead s w h j old new (section_of next)
+  size_read first next new a p = by next (subst (λ (u : Seek). PixelsSought s (w * h) (w * h) (plane_place w r) u old new next) a p)
     where
-      by : (next : Next) → PixelsSought s (w * h) (w * h) (plane_place w r) (first_run (w * h) (drop j s)) old new next → Reached (w * h) j next
+      by : (next : Option Next) → PixelsSought s (w * h) (w * h) (plane_place w r) (first_run (w * h) (drop j s)) old new next → Reached (w * h) j next
           → ((i : ℕ) → get_or new i 0 < 256) → SizeRead s w h j old new (section_of next)
-      by Lost p n bytes = (p.size, size-found j old new f clean p)
-      by (Ended end) p n bytes = (size_points j old new f clean p, size-found j old new f clean p, size_packed j old new f clean p len bytes, n)
-      by (Run left i) p n bytes = (p.size, size-found j old new f clean p)
+      by None p n bytes = (p.size, size-found j old new f clean p)
+      by (Some (Ended end)) p n bytes = (size_points j old new f clean p, size-found j old new f clean p, size_packed j old new f clean p len bytes, n)
+      by (Some (Run left i)) p n bytes = (p.size, size-found j old new f clean p)
 
   -- it is over at once
-  pub size_once : (next : Next) → Over next → first ≡ next → ((i : ℕ) → get_or old i 0 < 256) → SizeRead s w h j old old (section_of next)
-  size_once next o q bytes =
-      size_read next next old q (over_none next s (w * h) (w * h) (plane_place w r) old o) (reached_once next (w * h) j o (subst (Nearby j) q b)) bytes
+  pub size_once : (next : Option Next) → Over next → (next_of s next ≡ first_run (w * h) (drop j s)) × Nearby j next → ((i : ℕ) → get_or old i 0 < 256)
+      → SizeRead s w h j old old (section_of next)
+  size_once next o a =
+      size_read next next old a.0 (over_none next s (w * h) (w * h) (plane_place w r) old o) (reached_once next (w * h) j o a.1)
 
   -- it is walked from the first run on
-  pub size_walked : {left i : ℕ} {e : Next} {new : List ℕ} (next : Next) → first ≡ Run left i → e ≡ next
-      → PixelsWalked s (w * h) (w * h) (plane_place w r) left i old new e → ((k : ℕ) → get_or new k 0 < 256) → SizeRead s w h j old new (section_of next)
-  size_walked {left} {i} {e} {new} next q z p bytes =
-      let v = walk_as z p in
-      size_read next (Run left i) new q v.found (reached next (w * h) (w * h) j left i (subst (Nearby j) q b) v.moved) bytes
-
-  -- that run is short, and its end near
-  pub first_run_lem : {left i : ℕ} → first ≡ Run left i → (left < w * h) × (i ≤ j + left + 2)
-  first_run_lem {left} {i} q = (first_below (w * h) left (drop j s) (drop i s) (ap (next_of s) (sym q) ∙ a), subst (Nearby j) q b)
+  pub size_walked : {left i : ℕ} {new : List ℕ} (next : Option Next)
+      → (next_of s (Some (Run left i)) ≡ first_run (w * h) (drop j s)) × Nearby j (Some (Run left i))
+      → PixelsWalked s (w * h) (w * h) (plane_place w r) left i old new next → ((k : ℕ) → get_or new k 0 < 256) → SizeRead s w h j old new (section_of next)
+  size_walked {left} {i} {new} next a p =
+      size_read (Some (Run left i)) next new a.0 p.found (reached next (w * h) (w * h) j left i a.1 p.moved)

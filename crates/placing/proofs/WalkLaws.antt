@@ -8,17 +8,19 @@ use native.Mathlib.Nat.{zero-add}
 use native.Mathlib.Omega.{arith}
 use lib.ListN.{get_or-append, drop, get_or, get_or-replicate, length, replicate}
 use lib.Seq.{get_or-append-add}
+use Rattle.std.specs.Prelude.{None, Option, Some}
 use Rattle.morphology.specs.Lists.{tabulate}
 use Rattle.morphology.proofs.ImageLaws.{length-row}
 use Rattle.raster.specs.Rows.{row_bit}
 use Rattle.reading.specs.Nexts.{next_of}
 use Rattle.reading.specs.Seeking.{Seek, sought_all, sought_points}
 use Rattle.reading.specs.declared.Next.{Next}
-use Rattle.reading.specs.declared.Next.TheVariants.{Ended, Lost, Run}
+use Rattle.reading.specs.declared.Next.TheVariants.{Ended, Run}
 use Rattle.reading.proofs.SeekLaws.{ended_all, length-points, lost_all, points_append, sought_append}
 use Rattle.sections.proofs.KindLaws.{row_agree, row_parts}
 use Rattle.placing.specs.Planes.{PixelsSought, PixelsWalked, pixels_at}
 use Rattle.seeking.specs.Words.{Advanced}
+use Rattle.seeking.proofs.OnwardLaws.{Over}
 
 -- the pixels come one after the other
 abbrev pub Increasing : (ℕ → ℕ) → Type 0
@@ -27,7 +29,7 @@ Increasing p = (i j : ℕ) → i < j → p i < p j
 -- ---- the points, and what follows
 
 -- a walk that finds no point
-pub sought-none : {s : List ℕ} {limit n : ℕ} {p : ℕ → ℕ} {t : Seek} {old : List ℕ} {next : Next} → next_of s next ≡ sought_all limit (pixels_at old p n) t
+pub sought-none : {s : List ℕ} {limit n : ℕ} {p : ℕ → ℕ} {t : Seek} {old : List ℕ} {next : Option Next} → next_of s next ≡ sought_all limit (pixels_at old p n) t
     → sought_points limit (pixels_at old p n) t ≡ replicate (length (pixels_at old p n)) false → PixelsSought s limit n p t old old next
 sought-none {s} {limit} {n} {p} {t} {old} {next} e f = record {
   size = refl;
@@ -40,7 +42,7 @@ sought-none {s} {limit} {n} {p} {t} {old} {next} e f = record {
 }
 
 -- over n pixels, and over the m after them
-module _ {s : List ℕ} {limit n m : ℕ} {p q : ℕ → ℕ} {t : Seek} {old mid new : List ℕ} {e next : Next} (inc : Increasing p)
+module _ {s : List ℕ} {limit n m : ℕ} {p q : ℕ → ℕ} {t : Seek} {old mid new : List ℕ} {e next : Option Next} (inc : Increasing p)
     (after : (i : ℕ) → i < m → q i ≡ p (n + i)) (a : PixelsSought s limit n p t old mid e) (b : PixelsSought s limit m q (next_of s e) mid new next) where
   marks : List Bool
   marks = sought_points limit (pixels_at old p n) t
@@ -94,18 +96,18 @@ module _ {s : List ℕ} {limit n m : ℕ} {p q : ℕ → ℕ} {t : Seek} {old mi
 -- ---- and how far it has gone
 
 -- no pixel yet
-pub walk_none : {limit left : ℕ} (s : List ℕ) (p : ℕ → ℕ) (at : ℕ) (old : List ℕ) → left < limit → PixelsWalked s limit 0 p left at old old (Run left at)
+pub walk_none : {limit left : ℕ} (s : List ℕ) (p : ℕ → ℕ) (at : ℕ) (old : List ℕ) → left < limit → PixelsWalked s limit 0 p left at old old (Some (Run left at))
 unfolding tabulate sought_all sought_points
 walk_none s p at old l = record { found = sought-none refl refl; moved = (omega arith, l) }
 
 -- two walks, one after the other
-moved_more : (next : Next) (limit n m left at k j : ℕ) → Advanced limit n left at (Run k j) → Advanced limit m k j next → Advanced limit (n + m) left at next
-moved_more Lost limit n m left at k j h g = tt
-moved_more (Ended end) limit n m left at k j h g = omega (arith, h.0)
-moved_more (Run left' at') limit n m left at k j h g = (omega (arith, h.0, g.0), g.1)
+moved_more : (next : Option Next) (limit n m left at k j : ℕ) → Advanced limit n left at (Some (Run k j)) → Advanced limit m k j next → Advanced limit (n + m) left at next
+moved_more None limit n m left at k j h g = tt
+moved_more (Some (Ended end)) limit n m left at k j h g = omega (arith, h.0)
+moved_more (Some (Run left' at')) limit n m left at k j h g = (omega (arith, h.0, g.0), g.1)
 
-pub walk_more : {s : List ℕ} {limit n m left at k j : ℕ} {p q : ℕ → ℕ} {old mid new : List ℕ} {next : Next} → Increasing p
-    → ((i : ℕ) → i < m → q i ≡ p (n + i)) → PixelsWalked s limit n p left at old mid (Run k j) → PixelsWalked s limit m q k j mid new next
+pub walk_more : {s : List ℕ} {limit n m left at k j : ℕ} {p q : ℕ → ℕ} {old mid new : List ℕ} {next : Option Next} → Increasing p
+    → ((i : ℕ) → i < m → q i ≡ p (n + i)) → PixelsWalked s limit n p left at old mid (Some (Run k j)) → PixelsWalked s limit m q k j mid new next
     → PixelsWalked s limit (n + m) p left at old new next
 walk_more {s} {limit} {n} {m} {left} {at} {k} {j} {p} {q} {old} {mid} {new} {next} inc after a b = record {
   found = sought_more inc after a.found b.found;
@@ -113,37 +115,26 @@ walk_more {s} {limit} {n} {m} {left} {at} {k} {j} {p} {q} {old} {mid} {new} {nex
 }
 
 -- the same by another name
-pub walk_as : {s : List ℕ} {limit n left at : ℕ} {p : ℕ → ℕ} {old new : List ℕ} {e next : Next} → e ≡ next → PixelsWalked s limit n p left at old new e
-    → PixelsWalked s limit n p left at old new next
-walk_as {s} {limit} {n} {left} {at} {p} {old} {new} {e} {next} q a = subst (PixelsWalked s limit n p left at old new) q a
-
-pub walk_sized : {s : List ℕ} {limit n m left at : ℕ} {p : ℕ → ℕ} {old new : List ℕ} {next : Next} → n ≡ m → PixelsWalked s limit n p left at old new next
+pub walk_sized : {s : List ℕ} {limit n m left at : ℕ} {p : ℕ → ℕ} {old new : List ℕ} {next : Option Next} → n ≡ m → PixelsWalked s limit n p left at old new next
     → PixelsWalked s limit m p left at old new next
 walk_sized {s} {limit} {n} {m} {left} {at} {p} {old} {new} {next} q a = subst (λ (k : ℕ). PixelsWalked s limit k p left at old new next) q a
 
--- nothing follows that is a run
-abbrev pub Over : Next → Type 0
-Over Lost = Unit {0}
-Over (Ended end) = Unit {0}
-Over (Run left at) = ⊥
+-- where no run follows the pixels up to w are as they were
+pub over_none : (next : Option Next) (s : List ℕ) (limit n : ℕ) (p : ℕ → ℕ) (old : List ℕ) → Over next → PixelsSought s limit n p (next_of s next) old old next
+over_none None s limit n p old o = let r = lost_all limit (pixels_at old p n) in sought-none (sym r.0) r.1
+over_none (Some (Ended end)) s limit n p old o = let r = ended_all limit (pixels_at old p n) (drop end s) in sought-none (sym r.0) r.1
+over_none (Some (Run left at)) s limit n p old o = absurd o
 
--- then the pixels up to w are as they were
-pub over_none : (next : Next) (s : List ℕ) (limit n : ℕ) (p : ℕ → ℕ) (old : List ℕ) → Over next → PixelsSought s limit n p (next_of s next) old old next
-over_none Lost s limit n p old o = let r = lost_all limit (pixels_at old p n) in sought-none (sym r.0) r.1
-over_none (Ended end) s limit n p old o = let r = ended_all limit (pixels_at old p n) (drop end s) in sought-none (sym r.0) r.1
-over_none (Run left at) s limit n p old o = absurd o
+moved-over : (next : Option Next) (limit n w left at : ℕ) → n ≤ w → Over next → Advanced limit n left at next → Advanced limit w left at next
+moved-over None limit n w left at h o m = tt
+moved-over (Some (Ended end)) limit n w left at h o m = omega arith
+moved-over (Some (Run left' at')) limit n w left at h o m = absurd o
 
-moved-over : (next : Next) (limit n w left at : ℕ) → n ≤ w → Over next → Advanced limit n left at next → Advanced limit w left at next
-moved-over Lost limit n w left at h o m = tt
-moved-over (Ended end) limit n w left at h o m = omega arith
-moved-over (Run left' at') limit n w left at h o m = absurd o
-
-pub walk-over : {s : List ℕ} {limit n left at : ℕ} {p : ℕ → ℕ} {old new : List ℕ} {e next : Next} (w : ℕ) → n ≤ w → Increasing p → e ≡ next → Over next
-    → PixelsWalked s limit n p left at old new e → PixelsWalked s limit w p left at old new next
-walk-over {s} {limit} {n} {left} {at} {p} {old} {new} {e} {next} w h inc q o a =
-    let b = walk_as q a in
+pub walk-over : {s : List ℕ} {limit n left at : ℕ} {p : ℕ → ℕ} {old new : List ℕ} {next : Option Next} (w : ℕ) → n ≤ w → Increasing p → Over next
+    → PixelsWalked s limit n p left at old new next → PixelsWalked s limit w p left at old new next
+walk-over {s} {limit} {n} {left} {at} {p} {old} {new} {next} w h inc o a =
     let z : n + (w - n) ≡ w = omega arith in
     walk_sized z (record {
-      found = sought_more inc (λ i l. refl) b.found (over_none next s limit (w - n) (λ i. p (n + i)) new o);
-      moved = moved-over next limit n (n + (w - n)) left at (omega arith) o b.moved;
+      found = sought_more inc (λ i l. refl) a.found (over_none next s limit (w - n) (λ i. p (n + i)) new o);
+      moved = moved-over next limit n (n + (w - n)) left at (omega arith) o a.moved;
     })

@@ -1,5 +1,5 @@
 -- Walks over pixels of a plane. Definitions only; proofs/RowLaws.antt, WalkLaws.antt, PlaneLaws.antt and SizeLaws.antt have the laws.
-use Rattle.std.specs.Prelude.{Bool, ◌||◌, false, List, ◌≡◌, ◌%◌, ◌*◌, ◌+◌, ◌/◌, ◌<◌, ◌≤◌, ℕ, drop, get_or, length}
+use Rattle.std.specs.Prelude.{Bool, ◌||◌, false, List, ◌≡◌, ◌%◌, ◌*◌, ◌+◌, ◌/◌, ◌<◌, ◌≤◌, ℕ, Option, Some, None, drop, get_or, length}
 use Rattle.std.proofs.Math.Option.{none, some}
 use Rattle.coding.specs.Runs.{unmasked}
 use Rattle.morphology.specs.Image.{image_set, pack}
@@ -12,8 +12,6 @@ use Rattle.reading.specs.Seeking.{Seek, seek, sought_all, sought_points}
 use Rattle.reading.specs.Taking.{read_size}
 use Rattle.reading.specs.declared.Next.{Next}
 use Rattle.seeking.specs.Words.{Advanced}
-use Rattle.placing.specs.declared.Section.{Section}
-use Rattle.placing.specs.declared.Section.TheVariants.{Bad, End}
 
 -- where the pixels of a row at byte a are, and those of rows of w pixels in r bytes each, one row after the other
 abbrev pub row_place : ℕ → ℕ → ℕ
@@ -27,20 +25,20 @@ abbrev pub pixels_at : List ℕ → (ℕ → ℕ) → ℕ → List Bool
 pixels_at s p n = tabulate (λ i. row_bit s (p i)) 0 n
 
 -- The walk over these pixels: its points are joined to them, no other pixel has changed, and what follows in a stream with the symbols s.
-pub record PixelsSought (s : List ℕ) (limit n : ℕ) (p : ℕ → ℕ) (t : Seek) (old new : List ℕ) (next : Next) : Type 0 where
+pub record PixelsSought (s : List ℕ) (limit n : ℕ) (p : ℕ → ℕ) (t : Seek) (old new : List ℕ) (next : Option Next) : Type 0 where
   pub size : length new ≡ length old
   pub pixels : (i : ℕ) → i < n → row_bit new (p i) ≡ (row_bit old (p i) || get_or (sought_points limit (pixels_at old p n) t) i false)
   pub others : (x : ℕ) → ((i : ℕ) → i < n → p i ≡ x → ⊥) → row_bit new x ≡ row_bit old x
   pub stands : next_of s next ≡ sought_all limit (pixels_at old p n) t
 
 -- The same from where `left` pixels outside the mask come before the next point and its run ends before symbol `at`, and how far it has gone.
-pub record PixelsWalked (s : List ℕ) (limit n : ℕ) (p : ℕ → ℕ) (left at : ℕ) (old new : List ℕ) (next : Next) : Type 0 where
+pub record PixelsWalked (s : List ℕ) (limit n : ℕ) (p : ℕ → ℕ) (left at : ℕ) (old new : List ℕ) (next : Option Next) : Type 0 where
   pub found : PixelsSought s limit n p (seek left (drop at s)) old new next
   pub moved : Advanced limit n left at next
 
 -- One size read from symbol `at` on over the pixels outside the mask that a plane has: its points are joined to the mask; or it cannot be read.
-abbrev pub SizeRead : List ℕ → ℕ → ℕ → ℕ → List ℕ → List ℕ → Section → Type 0
-SizeRead s w h at old new Bad = (length new ≡ length old) × (read_size (unmasked w h (image_set w h old)) (drop at s) ≡ none)
-SizeRead s w h at old new (End next) =
+abbrev pub SizeRead : List ℕ → ℕ → ℕ → ℕ → List ℕ → List ℕ → Option ℕ → Type 0
+SizeRead s w h at old new None = (length new ≡ length old) × (read_size (unmasked w h (image_set w h old)) (drop at s) ≡ none)
+SizeRead s w h at old new (Some next) =
     (ps : List Point) × (read_size (unmasked w h (image_set w h old)) (drop at s) ≡ some (ps, drop next s))
     × (new ≡ pack w h (λ z. among ps z || image_set w h old z)) × (next ≤ at + 2 * (w * h) + 2)

@@ -5,11 +5,18 @@ use mathlib.Core.Path.{◌∙◌, ◌≡◌, ap, ap₂, refl, sym}
 use Prim.Native.Nat.{◌%◌, ◌*◌, ◌+◌, ◌-◌, ◌/◌, ◌<◌, ◌^◌, ◌≤◌, suc, zero, ℕ}
 use native.Mathlib.Decide.{dec_lt}
 use native.Mathlib.Nat.{le_refl}
+use mathlib.Core.List.{append-nil, ◌++◌}
+use mathlib.Core.Path.{subst}
+use lib.ListN.{drop, get_or, length, length-drop, take}
+use Rattle.std.proofs.Math.ListN.{drop_of_length-le}
+use Rattle.std.proofs.lemmas.List.{get_or-drop, get_or-take}
+use Rattle.morphology.specs.Image.{bit_of}
 use native.Mathlib.Omega.{arith}
 use borrow.Author.Tests.{le-leb, lt-ltb}
 use lib.Dec.{T, eqb, eqb→eq, ltb}
 use Rattle.morphology.specs.Element.{bit}
-use Rattle.raster.specs.Rows.{PlaneIs, RowIs, join, row_bit}
+use Rattle.raster.specs.Rows.{PlaneIs, join, row_bit}
+use Rattle.raster.proofs.PartLaws.{PartIs, part_back, part-bit}
 use Rattle.raster.proofs.RowLaws.{row_in}
 use Rattle.neighbours.specs.Neighbours.{PlaneJoined, five_of, joined, near_bit, neighbours, turned}
 use Rattle.planes.specs.Begun.{Begun}
@@ -132,7 +139,7 @@ pub origin-bit : (e : ℕ) → T (bit e 12) → e / 4096 % 2 ≡ 1
 origin-bit e t = eqb→eq (e / 2 ^ 12 % 2) 1 t
 
 -- a plane begun with the first one
-pub begun_copy : (t : Bool) (p r h e n : ℕ) (old new : List ℕ) → n ≡ h * r → e / 4096 % 2 ≡ 1 → RowIs p n old new (row_bit old)
+pub begun_copy : (t : Bool) (p r h e n : ℕ) (old new : List ℕ) → n ≡ h * r → e / 4096 % 2 ≡ 1 → PartIs p n old old new
     → Begun t p r h e (e - 4096) old new
 begun_copy t p r h e n old new en o m = record {
   size = m.size;
@@ -142,7 +149,7 @@ begun_copy t p r h e n old new en o m = record {
       let i = row_in y h r (h * r) ly (le_refl (h * r)) in
       let z : 8 * (p + y * r) + x ≡ 8 * p + (8 * (y * r) + x) = omega arith in
       ap (λ (b : Bool). join t b (neighbours t (e - 4096) (near_bit old r h) x y))
-      (ap (row_bit new) z ∙ m.pixels (8 * (y * r) + x) (omega (arith, i)) ∙ sym (near_itself old r h x y ly lx))
+      (ap (row_bit new) z ∙ part-bit m (8 * (y * r) + x) (omega (arith, i)) ∙ sym (near_itself old r h x y ly lx))
       ∙ origin_less t e (near_bit old r h) x y o;
 }
 
@@ -170,3 +177,40 @@ plane-cleared w b c = record {
   after = λ j z. c.after j z ∙ b.after j z;
   pixels = λ y x l k. c.pixels y x l k ∙ ap (λ (n : Bool). n && ltb x w) (b.pixels y x l k);
 }
+
+-- a pixel of what stands from byte q on
+drop-bit : (q : ℕ) (v : List ℕ) (x : ℕ) → row_bit (drop q v) x ≡ row_bit v (8 * q + x)
+unfolding row_bit
+drop-bit q v x =
+    let e : q + x / 8 ≡ (8 * q + x) / 8 = omega arith in
+    let m : x % 8 ≡ (8 * q + x) % 8 = omega arith in
+    ap (λ (b : ℕ). bit_of b (x % 8)) (get_or-drop q v (x / 8) 0) ∙ ap₂ (λ (i k : ℕ). bit_of (get_or v i 0) k) e m
+
+-- a plane joined, lent as what stands from it on, and back
+pub plane-lent : (t : Bool) (q r h e : ℕ) (v ys new : List ℕ) → h * r ≤ q → q + h * r ≤ length v → new ≡ take q v ++ ys
+    → PlaneJoined t 0 r h (drop q v) ys (λ y x. neighbours t e (near_bit (take q v) r h) x y)
+    → PlaneJoined t q r h v new (λ y x. neighbours t e (near_bit v r h) x y)
+plane-lent t q r h e v ys new hq hv en m = record {
+  size = part.size;
+  before = part.before;
+  after = λ j l. by j l (dec_lt j (length v));
+  pixels = λ y x ly lx.
+      let i = row_in y h r (h * r) ly (le_refl (h * r)) in
+      let z : 8 * (q + y * r) + x ≡ 8 * q + (8 * (y * r) + x) = omega arith in
+      let o : 8 * (y * r) + x ≡ 8 * (0 + y * r) + x = omega arith in
+      ap (row_bit new) z ∙ part-bit part (8 * (y * r) + x) (omega (arith, i)) ∙ ap (row_bit ys) o ∙ m.pixels y x ly lx
+      ∙ ap₂ (join t) (ap (row_bit (drop q v)) (sym o) ∙ drop-bit q v (8 * (y * r) + x) ∙ ap (row_bit v) (sym z))
+      (λ i. neighbours t e (λ X Y. near_same (take q v) v r h (λ j l. get_or-take q v j 0 (omega arith)) X Y i) x y);
+}
+  where
+    part : PartIs q (length v - q) v ys new
+    part = subst (PartIs q (length v - q) v ys)
+        (sym (en ∙ ap (λ (l : List ℕ). take q v ++ l) (sym (append-nil ys) ∙ ap (λ (l : List ℕ). ys ++ l) (sym (drop_of_length-le (drop q v) (omega (arith, length-drop q v)))))))
+        (part_back q (length v - q) v ys (omega arith) (m.size ∙ length-drop q v))
+
+    by : (j : ℕ) → q + h * r ≤ j → Dec (j < length v) → get_or new j 0 ≡ get_or v j 0
+    by j l (yes k) =
+        let z : q + (j - q) ≡ j = omega arith in
+        ap (λ (i : ℕ). get_or new i 0) (sym z) ∙ part.within (j - q) (omega arith) ∙ m.after (j - q) (omega arith) ∙ get_or-drop q v (j - q) 0
+        ∙ ap (λ (i : ℕ). get_or v i 0) z
+    by j l (no k) = part.after j (omega arith)

@@ -8,73 +8,78 @@ ghost use Rattle.morphology.specs.Image.{image_set, pack, is_clean, clip};
 ghost use Rattle.morphology.specs.Morphology.{erode, dilate, opening};
 ghost use Rattle.raster.specs.Limits.{max_frame, max_stride};
 ghost use Rattle.raster.specs.Rows.{PlaneIs, overwrite, row_bit};
-ghost use Rattle.raster.specs.Frames.{Frame};
 ghost use Rattle.neighbours.specs.Neighbours.{near_bit, neighbours};
 ghost use Rattle.planes.specs.Begun.{Begun};
 
+use raster::{Frame, Join};
+
 // Begins the plane at p, for an erosion or a dilation, with the first plane, which the element's origin asks for. The rest of the element is returned.
-fn begin_plane(work: &mut [u8], p: usize, r: usize, h: usize, element: u32) -> u32
-    requires { (h * r ≤ p) × (p + h * r ≤ length work.old) × T (bit element 12) }
-    ensures { (t : Bool) → Begun t p r h element result work.old work.new }
+fn begin_plane(work: &mut [u8], q: usize, f: Frame, element: u32) -> u32
+    requires { (f.h * f.r ≤ q) × (q + f.h * f.r ≤ length work.old) × T (bit element 12) }
+    ensures { (t : Bool) → Begun t q f.r f.h element result work.old work.new }
 {
-    raster::copy_up(work, p, h * r);
+    let Frame { h, r, .. } = f;
+    work.copy_within(..h * r, q);
     element - elements::ORIGIN
 }
 
 // Clears the padding of h rows at p.
-fn clear_rows(work: &mut [u8], p: usize, w: usize, r: usize, h: usize)
-    requires { (p + h * r ≤ length work.old) × (w ≤ 8 * r) × (8 * r < w + 8) × (0 < r) × (r ≤ max_stride) }
-    ensures { PlaneIs p r h work.old work.new (λ y x. row_bit work.old (8 * (p + y * r) + x) && ltb x w) }
+fn clear_rows(work: &mut [u8], q: usize, f: Frame)
+    requires { (q + f.h * f.r ≤ length work.old) }
+    ensures { PlaneIs q f.r f.h work.old work.new (λ y x. row_bit work.old (8 * (q + y * f.r) + x) && ltb x f.w) }
 {
-    let mut y: usize = 0;
-    while y < h {
-        let d = p + y * r;
+    let Frame { w, h, r, .. } = f;
+    for y in 0..h {
+        let d = q + y * r;
         raster::clear_padding(&mut work[d..d + r], w);
-        y = y + 1;
     }
 }
 
 // The first plane, h rows of r bytes, eroded or dilated into the plane at p, with what a dilation puts into the padding.
-fn morph_plane(dilating: bool, work: &mut [u8], p: usize, r: usize, h: usize, element: u32)
-    requires { (h * r ≤ p) × (p + h * r ≤ length work.old) × (0 < r) × (r ≤ max_stride) × (h ≤ max_frame) × T (bit element 12) }
-    ensures { PlaneIs p r h work.old work.new (λ y x. neighbours dilating element (near_bit work.old r h) x y) }
+fn morph_plane(dilating: bool, work: &mut [u8], q: usize, f: Frame, element: u32)
+    requires { (f.h * f.r ≤ q) × (q + f.h * f.r ≤ length work.old) × T (bit element 12) }
+    ensures { PlaneIs q f.r f.h work.old work.new (λ y x. neighbours dilating element (near_bit work.old f.r f.h) x y) }
 {
-    let rest = begin_plane(work, p, r, h, element);
-    let none = [0u8; 1];
-    neighbours::join_plane(dilating, false, true, &none, work, p, r, h, rest);
+    let rest = begin_plane(work, q, f, element);
+    let (first, plane) = work.split_at_mut(q);
+    let how = Join {
+        dilating,
+        inverse: false,
+    };
+    neighbours::join_plane(how, &first[..], plane, f, rest);
 }
 
 // The first plane of work, eroded into the one at p.
-pub fn erode_plane(w: usize, h: usize, r: usize, p: usize, element: u32, work: &mut [u8])
-    requires { Frame w h r × (h * r ≤ p) × (p + h * r ≤ length work.old) × T (bit element 12) × T (is_clean w h work.old) }
-    ensures { work.new ≡ overwrite p (pack w h (erode (offsets element) (image_set w h work.old))) work.old }
+pub fn erode_plane(f: Frame, q: usize, element: u32, work: &mut [u8])
+    requires { (f.h * f.r ≤ q) × (q + f.h * f.r ≤ length work.old) × T (bit element 12) × T (is_clean f.w f.h work.old) }
+    ensures { work.new ≡ overwrite q (pack f.w f.h (erode (offsets element) (image_set f.w f.h work.old))) work.old }
 {
-    morph_plane(false, work, p, r, h, element);
+    morph_plane(false, work, q, f, element);
 }
 
 // The first plane of work, dilated into the one at p and clipped at the frame. Answers whether a point of the dilation fell off.
-pub fn dilate_plane(w: usize, h: usize, r: usize, p: usize, element: u32, work: &mut [u8]) -> bool
-    requires { Frame w h r × (h * r ≤ p) × (p + h * r ≤ length work.old) × T (bit element 12) × T (is_clean w h work.old) }
-    ensures plane { work.new ≡ overwrite p (pack w h (clip w h (dilate (offsets element) (image_set w h work.old))))
+pub fn dilate_plane(f: Frame, q: usize, element: u32, work: &mut [u8]) -> bool
+    requires { (f.h * f.r ≤ q) × (q + f.h * f.r ≤ length work.old) × T (bit element 12) × T (is_clean f.w f.h work.old) }
+    ensures plane { work.new ≡ overwrite q (pack f.w f.h (clip f.w f.h (dilate (offsets element) (image_set f.w f.h work.old))))
         work.old }
-    ensures clipped { result ≡ falls_off w h (offsets element) (image_set w h work.old) }
+    ensures clipped { result ≡ falls_off f.w f.h (offsets element) (image_set f.w f.h work.old) }
 {
-    let clipped = margins::falls_off(w, h, r, element, &work[..]);
-    morph_plane(true, work, p, r, h, element);
+    let clipped = margins::falls_off(f, element, &work[..]);
+    morph_plane(true, work, q, f, element);
     let clears = clipped;
     if clears {
-        clear_rows(work, p, w, r, h);
+        clear_rows(work, q, f);
     }
     clipped
 }
 
 // The first plane of work, eroded into the one at p; that one, dilated into the next: the opening. Answers what the dilation does, that nothing fell off.
-pub fn open_plane(w: usize, h: usize, r: usize, p: usize, element: u32, work: &mut [u8]) -> bool
-    requires { Frame w h r × (h * r ≤ p) × (p + p + h * r ≤ length work.old) × T (bit element 12) × T (is_clean w h work.old) }
-    ensures planes { work.new ≡ overwrite (p + p) (pack w h (opening (offsets element) (image_set w h work.old)))
-        (overwrite p (pack w h (erode (offsets element) (image_set w h work.old))) work.old) }
+pub fn open_plane(f: Frame, q: usize, element: u32, work: &mut [u8]) -> bool
+    requires { (f.h * f.r ≤ q) × (q + q + f.h * f.r ≤ length work.old) × T (bit element 12) × T (is_clean f.w f.h work.old) }
+    ensures planes { work.new ≡ overwrite (q + q) (pack f.w f.h (opening (offsets element) (image_set f.w f.h work.old)))
+        (overwrite q (pack f.w f.h (erode (offsets element) (image_set f.w f.h work.old))) work.old) }
     ensures clipped { result ≡ false }
 {
-    erode_plane(w, h, r, p, element, work);
-    dilate_plane(w, h, r, p, element, &mut work[p..])
+    erode_plane(f, q, element, work);
+    dilate_plane(f, q, element, &mut work[q..])
 }

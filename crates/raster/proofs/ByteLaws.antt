@@ -3,7 +3,7 @@ use mathlib.Core.Bool.{Bool, ◌&&◌, and-false, and-true, false, not, true, xo
 use mathlib.Core.Path.{◌∙◌, ◌≡◌, ap, refl, sym}
 use Prim.Native.Nat.{◌%◌, ◌*◌, ◌+◌, ◌-◌, ◌/◌, ◌<◌, ◌^◌, ◌≤◌, suc, zero, ℕ}
 use native.Mathlib.Decide.{dec_le}
-use native.Mathlib.Nat.{add-zero, div-mul-le_self, mod-eq_of_lt, zero-div, zero-mul}
+use native.Mathlib.Nat.{add-zero, mod-eq_of_lt, zero-div, zero-mul}
 use native.Mathlib.Omega.{arith}
 use borrow.Author.Tests.{le-leb, le-ltb, lt-leb, lt-ltb, ne_eqb}
 use lib.Bits.{and_high, bit_and, bit_or, bit_xor, or_shifted}
@@ -95,9 +95,6 @@ moved-bit a b d k ha hb hd hk =
     ∙ ap (λ (n : ℕ). v / 2 ^ n % 2) (omega arith))
 
 -- the lowest k bits cleared, as a word: a byte still, and pixels from 8 - k on are background
-pub cleared-small : (v : ℕ) → v < 256 → (k : ℕ) → (v / 2 ^ k * 2 ^ k) % 2 ^ 32 < 256
-cleared-small v hv k = omega (arith, div-mul-le_self v (2 ^ k))
-
 pub cleared-bit : (v k j : ℕ) → v < 256 → k ≤ 8 → j < 8 → bit_of ((v / 2 ^ k * 2 ^ k) % 2 ^ 32) j ≡ (bit_of v j && ltb j (8 - k))
 unfolding bit_of
 cleared-bit v k j hv hk hj = ap (λ (n : ℕ). eqb (n / 2 ^ m % 2) 1) e ∙ by (dec_le k m)

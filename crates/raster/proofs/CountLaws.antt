@@ -2,12 +2,14 @@
 use mathlib.Core.List.{List, [], ◌++◌, ◌∷◌}
 use mathlib.Core.Path.{◌∙◌, ◌≡◌, ap, ap₂, refl, sym}
 use Prim.Native.Nat.{◌%◌, ◌*◌, ◌+◌, ◌/◌, ◌<◌, ◌^◌, suc, zero, ℕ}
-use native.Mathlib.Nat.{add_assoc, add_comm, add-zero, pow-suc, suc-add, suc-mul, zero-add, zero-mul}
+use native.Mathlib.Nat.{add_assoc, add_comm, add-zero, mul-suc, mul-zero, pow-suc, suc-add, suc-mul, zero-add, zero-mul}
 use native.Mathlib.Omega.{arith}
 use lib.Bits.{and_mod, and_shr, bit_and, bit_or, bit_xor, or_mod, or_shr, xor_mod, xor_shr}
 use lib.Count.{ones, ones_cat, ones_step}
 use lib.ListN.{drop, get_or, length, take}
 use lib.Seq.{drop-cons, drop-drop, take-add, take-length}
+use Rattle.std.specs.Int.{from_le_bytes, w64}
+use Rattle.std.specs.Simd.{first_chunks}
 use Rattle.morphology.specs.Image.{ones_of}
 use Rattle.raster.specs.Counts.{Gathered, ones_apart}
 
@@ -22,6 +24,11 @@ ones_append (x ∷ a) b = ap (λ (n : ℕ). ones x + n) (ones_append a b) ∙ sy
 pub ones_more : (l : List ℕ) (i k : ℕ) → ones_of (take (i + k) l) ≡ ones_of (take i l) + ones_of (take k (drop i l))
 ones_more l i k = ap ones_of (take-add i k l) ∙ ones_append (take i l) (take k (drop i l))
 
+-- one byte more
+pub ones_next : (l : List ℕ) (i : ℕ) → i < length l → ones_of (take (i + 1) l) ≡ ones_of (take i l) + ones (get_or l i 0)
+unfolding ones_of
+ones_next l i h = ones_more l i 1 ∙ rw (drop-cons l i 0) (ap (λ (n : ℕ). ones_of (take i l) + n) (add-zero (ones (get_or l i 0))))
+
 -- all of them
 pub ones-whole : (l : List ℕ) (i : ℕ) → i ≡ length l → ones_of (take i l) ≡ ones_of l
 ones-whole l i e = ap (λ (n : ℕ). ones_of (take n l)) e ∙ ap ones_of (take-length l)
@@ -32,19 +39,46 @@ ones-part l o i k = rw (← drop-drop i o l) (ones_more (drop o l) i k)
 
 -- ---- words
 
-pub gathered_byte : {l : List ℕ} {i v : ℕ} → i < length l → v ≡ get_or l i 0 → v < 256 → Gathered l i 1 v
-unfolding ones_of
-gathered_byte {l} {i} {v} h e b = record { fits = b; same = rw (drop-cons l i 0) (ap ones e ∙ sym (add-zero (ones (get_or l i 0)))) }
-
 -- two numbers side by side
 pub gathered_both : {l : List ℕ} {i j k a b : ℕ} → b * 2 ^ (8 * j) + a < 2 ^ (8 * (j + k)) → Gathered l i j a → Gathered l (i + j) k b
     → Gathered l i (j + k) (b * 2 ^ (8 * j) + a)
 gathered_both {l} {i} {j} {k} {a} {b} h x y =
     record { fits = h; same = ones_cat (8 * j) b a x.fits ∙ add_comm (ones b) (ones a) ∙ ap₂ ◌+◌ x.same y.same ∙ sym (ones-part l i j k) }
 
--- the ones of the first i bytes, and of k more
-pub gathered_more : {l : List ℕ} {i k n v : ℕ} → Gathered l i k v → n ≡ ones_of (take i l) → n + ones v ≡ ones_of (take (i + k) l)
-gathered_more {l} {i} {k} g e = ap₂ ◌+◌ e g.same ∙ sym (ones_more l i k)
+-- the number of some bytes, lowest first
+number : List ℕ → ℕ
+number [] = 0
+number (b ∷ l) = number l * 2 ^ 8 + b
+
+-- its ones are theirs
+ones-number : (l : List ℕ) → ((j : ℕ) → get_or l j 0 < 256) → ones (number l) ≡ ones_of l
+unfolding number ones_of ones
+ones-number [] h = refl
+ones-number (b ∷ l) h = ones_cat 8 (number l) b (h 0) ∙ add_comm (ones (number l)) (ones b) ∙ ap (λ (n : ℕ). ones b + n) (ones-number l (λ j. h (suc j)))
+
+number-word : (l : List ℕ) → length l ≡ 8 → from_le_bytes w64 l ≡ number l
+unfolding number
+number-word [] q = absurd (omega arith)
+number-word (a ∷ []) q = absurd (omega arith)
+number-word (a ∷ b ∷ []) q = absurd (omega arith)
+number-word (a ∷ b ∷ c ∷ []) q = absurd (omega arith)
+number-word (a ∷ b ∷ c ∷ d ∷ []) q = absurd (omega arith)
+number-word (a ∷ b ∷ c ∷ d ∷ e ∷ []) q = absurd (omega arith)
+number-word (a ∷ b ∷ c ∷ d ∷ e ∷ f ∷ []) q = absurd (omega arith)
+number-word (a ∷ b ∷ c ∷ d ∷ e ∷ f ∷ g ∷ []) q = absurd (omega arith)
+number-word (a ∷ b ∷ c ∷ d ∷ e ∷ f ∷ g ∷ h ∷ []) q = omega arith
+number-word (a ∷ b ∷ c ∷ d ∷ e ∷ f ∷ g ∷ h ∷ x ∷ l) q = absurd (omega arith)
+
+pub ones-word : (l : List ℕ) → length l ≡ 8 → ((j : ℕ) → get_or l j 0 < 256) → ones (from_le_bytes w64 l) ≡ ones_of l
+ones-word l q h = ap ones (number-word l q) ∙ ones-number l h
+
+-- piece k of n bytes each
+pub chunk-at : (n m k : ℕ) (l : List ℕ) → k < m → get_or (first_chunks n m l) k [] ≡ take n (drop (n * k) l)
+chunk-at n zero k l h = absurd (omega arith)
+chunk-at n (suc m) zero l h = rw mul-zero refl
+chunk-at n (suc m) (suc k) l h =
+    let e : n + n * k ≡ n * suc k = omega (arith, mul-suc n k) in
+    chunk-at n m k (drop n l) (omega arith) ∙ ap (take n) (drop-drop (n * k) n l) ∙ ap (λ (j : ℕ). take n (drop j l)) e
 
 -- ---- words added place by place
 

@@ -7,3 +7,4 @@ pub mod CountLaws
 pub mod PlaneLaws
 pub mod PackLaws
 pub mod BandLaws
+pub mod FrameLaws

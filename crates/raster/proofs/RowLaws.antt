@@ -43,10 +43,6 @@ row_bit_win row q m hb h = by (dec_lt m 8)
 abbrev pub moved_at : List ℕ → ℕ → ℕ → ℕ → ℕ
 moved_at buf o d j = moved_byte (get_or buf (o + j) 0) (get_or buf (o + j + 1) 0) d
 
--- the bytes that a turn reads are bytes
-abbrev pub ReadBytes : List ℕ → ℕ → ℕ → Type 0
-ReadBytes buf o j = (get_or buf (o + j) 0 < 256) × (get_or buf (o + j + 1) 0 < 256)
-
 -- a loop over bytes is one over pixels
 pub mapped-pixels : (old new : List ℕ) (f : ℕ → ℕ) (g : ℕ → Bool → Bool) (n : ℕ) → length old ≤ n → Mapped f old new n
     → ((i k : ℕ) → i < n → k < 8 → bit_of (f i) k ≡ g (8 * i + k) (bit_of (get_or old i 0) k)) → Pixelwise old new g
@@ -77,15 +73,14 @@ rows-joined t v q src old new n eq h m =
 
 -- the end of `move_rows`
 pub rows-moved : (buf old new : List ℕ) (s n : ℕ) → length old ≤ n → Mapped (moved_at buf (s / 8) (s % 8)) old new n
-    → ((j : ℕ) → j < n → ReadBytes buf (s / 8) j) → Pixelwise old new (λ x b. row_bit buf (x + s))
+    → ((j : ℕ) → get_or buf j 0 < 256) → Pixelwise old new (λ x b. row_bit buf (x + s))
 rows-moved buf old new s n h m rd =
     mapped-pixels old new (moved_at buf (s / 8) (s % 8)) (λ x b. row_bit buf (x + s)) n h m (λ i k hi hk.
     let o : ℕ = s / 8 in
     let d : ℕ = s % 8 in
-    let hb : ReadBytes buf o i = rd i hi in
     let hd : d < 8 = omega arith in
     let e : 8 * i + k + s ≡ 8 * (o + i) + (k + d) = omega arith in
-    moved-bit (get_or buf (o + i) 0) (get_or buf (o + i + 1) 0) d k hb.0 hb.1 hd hk ∙ sym (row_bit_win buf (o + i) (k + d) hb.1 (omega arith)) ∙ sym (ap (row_bit buf) e))
+    moved-bit (get_or buf (o + i) 0) (get_or buf (o + i + 1) 0) d k (rd (o + i)) (rd (o + i + 1)) hd hk ∙ sym (row_bit_win buf (o + i) (k + d) (rd (o + i + 1)) (omega arith)) ∙ sym (ap (row_bit buf) e))
 
 -- the end of `subtract`
 pub row_subtracted : (src old new : List ℕ) (n : ℕ) → length old ≤ n → Mapped (λ j. bit_and (get_or old j 0) (bit_xor (get_or src j 0) 255)) old new n

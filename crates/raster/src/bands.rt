@@ -7,13 +7,11 @@ pub fn first_row(s: &[u8], r: usize, from: usize, to: usize) -> usize
     requires { (from ≤ to) × (to * r ≤ length s.now) }
     ensures { FirstRow r from to s.now result }
 {
-    let mut y = from;
-    while y < to {
+    for y in from..to {
         let at = y * r;
         if crate::has_ink(&s[at..at + r]) {
             return y;
         }
-        y = y + 1;
     }
     to
 }
@@ -23,14 +21,11 @@ pub fn end_row(s: &[u8], r: usize, from: usize, to: usize) -> usize
     requires { (from ≤ to) × (to * r ≤ length s.now) }
     ensures { EndRow r from to s.now result }
 {
-    let mut end = to;
-    while from < end {
-        let last = end - 1;
-        let at = last * r;
+    for y in (from..to).rev() {
+        let at = y * r;
         if crate::has_ink(&s[at..at + r]) {
-            return end;
+            return y + 1;
         }
-        end = last;
     }
     from
 }

@@ -1,11 +1,11 @@
 // Ones counted by words of eight bytes, seven words at a time.
-ghost use Rattle.std.specs.Prelude.{◌≡◌, ◌+◌, ◌*◌, ◌%◌, ◌<◌, ◌≤◌, ◌^◌, length, take};
+ghost use Rattle.std.specs.Prelude.{◌≡◌, ◌+◌, ◌*◌, ◌%◌, ◌<◌, ◌≤◌, ◌^◌, length, take, drop};
 ghost use Rattle.std.specs.Int.Count.{ones};
 ghost use Rattle.morphology.specs.Image.{ones_of};
-ghost use Rattle.raster.specs.Counts.{Gathered, ones_apart};
+ghost use Rattle.raster.specs.Counts.{ones_apart};
 
 // The ones of three words at each of their 64 places, as a number of two binary digits.
-#[derive(Drop)]
+#[derive(Clone, Copy)]
 struct Sums {
     low: u64,
     high: u64,
@@ -15,38 +15,15 @@ struct Sums {
 fn count_word(v: u64) -> u64
     ensures { (result ≡ ones v) × (result ≤ 64) }
 {
-    u64::count_ones(v) as u64
+    u64::from(v.count_ones())
 }
 
-// A byte as a word.
-fn wide(b: u8) -> u64
-    ensures { (result ≡ b) × (result < 256) }
-{
-    b as u64
-}
-
-// Two bytes from i on as one number.
-fn pair(s: &[u8], i: usize) -> u64
-    requires { i + 2 ≤ length s.now }
-    ensures { Gathered s.now i 2 result }
-{
-    wide(s[i + 1]) * 256 + wide(s[i])
-}
-
-// Four bytes.
-fn quad(s: &[u8], i: usize) -> u64
-    requires { i + 4 ≤ length s.now }
-    ensures { Gathered s.now i 4 result }
-{
-    pair(s, i + 2) * 65536 + pair(s, i)
-}
-
-// Eight bytes: the compiler makes one load of them.
+// The eight bytes from i on as one number: the compiler makes one load of them.
 fn word(s: &[u8], i: usize) -> u64
     requires { i + 8 ≤ length s.now }
-    ensures { Gathered s.now i 8 result }
+    ensures { ones result ≡ ones_of (take 8 (drop i s.now)) }
 {
-    quad(s, i + 4) * 4294967296 + quad(s, i)
+    u64::from_le_bytes(s[i..i + 8].try_into().unwrap())
 }
 
 // Three words added place by place.
@@ -85,11 +62,9 @@ fn count_parts(s: &[u8], p: usize) -> u64
     requires { (p % 8 ≡ 0) × (7 * p ≤ length s.now) × (length s.now < 2 ^ 20) }
     ensures { (result ≡ ones_of (take (7 * p) s.now)) × (result ≤ 56 * p) }
 {
-    let mut n: u64 = 0;
-    let mut i: usize = 0;
-    while i < p {
-        n = n + count_apart(s, p, i);
-        i = i + 8;
+    let mut n = 0;
+    for k in 0..p / 8 {
+        n += count_apart(s, p, 8 * k);
     }
     n
 }
@@ -99,16 +74,13 @@ fn count_few(s: &[u8]) -> u64
     requires { length s.now < 2 ^ 20 }
     ensures { (result ≡ ones_of s.now) × (result ≤ 64 * length s.now) }
 {
-    let whole = s.len() / 8 * 8;
-    let mut n: u64 = 0;
-    let mut i: usize = 0;
-    while i < whole {
-        n = n + count_word(word(s, i));
-        i = i + 8;
+    let (words, rest) = s.as_chunks();
+    let mut n = 0;
+    for w in words {
+        n += count_word(u64::from_le_bytes(*w));
     }
-    while i < s.len() {
-        n = n + count_word(wide(s[i]));
-        i = i + 1;
+    for b in rest {
+        n += count_word(u64::from(*b));
     }
     n
 }

@@ -3,15 +3,13 @@ use mathlib.Core.Bool.{Bool, ◌&&◌, and-false, cond, false, true}
 use mathlib.Core.List.{List, [], ◌++◌, ◌∷◌, append_assoc, append-nil}
 use mathlib.Core.Option.{Option, none, some}
 use mathlib.Core.Path.{◌∙◌, ◌≡◌, ap, ap₂, refl, subst, sym}
-use Prim.Native.Nat.{◌*◌, ◌+◌, ◌-◌, ◌/◌, ◌<◌, ◌^◌, ◌≤◌, suc, zero, ℕ}
+use Prim.Native.Nat.{◌*◌, ◌+◌, ◌-◌, ◌<◌, ◌^◌, ◌≤◌, suc, zero, ℕ}
 use native.Mathlib.Numerals.{add-one}
 use native.Mathlib.Omega.{arith}
 use borrow.Author.Tests.{le-ltb, lt-ltb}
 use lib.Dec.{T, ltb}
 use lib.ListN.{drop, drop_of_length-le, get_or, length}
 use lib.Seq.{drop-cons}
-use Rattle.coding.specs.Symbols.{symbols_of}
-use Rattle.coding.proofs.PackLaws.{length_symbols}
 use Rattle.reading.specs.Seeking.{ended, first_run, found_run, lost, next_run, seek}
 use Rattle.reading.specs.Splits.{is_numeral, value, value_after}
 use Rattle.reading.specs.Taking.{digit_then, short_run, take_run}
@@ -76,13 +74,6 @@ numeral_on (zero ∷ y ∷ ds) d t f = absurd t
 numeral_on (suc x ∷ y ∷ ds) d t f = tt
 
 -- ---- where a run may begin: symbol by symbol
-
--- symbol j is in its stream, or past it
-pub in-stream : (bytes : List ℕ) (j : ℕ) → j / 4 < length bytes → j < length (symbols_of bytes)
-in-stream bytes j h = omega (arith, length_symbols bytes)
-
-pub past-stream : (bytes : List ℕ) (j : ℕ) → length bytes ≤ j / 4 → length (symbols_of bytes) ≤ j
-past-stream bytes j h = omega (arith, length_symbols bytes)
 
 -- the place of a symbol in its byte
 pub symbol-place : (k : ℕ) → k < 4 → 2 ^ (6 - 2 * k) ≡ 4 ^ (3 - k)

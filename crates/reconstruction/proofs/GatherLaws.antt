@@ -6,7 +6,7 @@ use Prim.Native.Nat.{◌*◌, ◌+◌, ◌-◌, ◌<◌, ◌≤◌, max, suc, �
 use native.Mathlib.Nat.{le_refl}
 use native.Mathlib.Omega.{arith}
 use lib.Dec.{T, eqb}
-use lib.ListN.{drop, length, length-append, length-drop, length-replicate, replicate, take}
+use lib.ListN.{drop, length, length-append, length-drop, replicate, take}
 use lib.Seq.{drop_at, drop-drop, get_or-take, length-take-le, take_at}
 use Rattle.morphology.specs.Element.{offsets}
 use Rattle.morphology.specs.Falls.{falls_off}
@@ -149,13 +149,5 @@ module _ (W H p e k : ℕ) (q : p ≡ plane_bytes W H) (m : List ℕ) (t : Tame 
 
 -- ---- an empty first plane
 
-pub record Emptied (p : ℕ) (work ys : List ℕ) : Type 0 where
-  pub zeros : ys ≡ replicate p 0
-  pub first : take p (ys ++ drop p work) ≡ replicate p 0
-  pub size : length (ys ++ drop p work) ≡ length work
-
-pub emptied : (p : ℕ) (work ys : List ℕ) → p ≤ length work → ys ≡ replicate (length (take p work)) 0 → Emptied p work ys
-emptied p work ys h e =
-    let z : ys ≡ replicate p 0 = e ∙ ap (λ (n : ℕ). replicate n 0) (length-take-le p work h) in
-    let l : length ys ≡ p = ap length z ∙ length-replicate {A = ℕ} p 0 in
-    record { zeros = z; first = take_at ys (drop p work) p l ∙ z; size = length-append ys (drop p work) ∙ omega (arith, l, length-drop p work, h) }
+pub emptied : (p : ℕ) (work ys : List ℕ) → p ≤ length work → ys ≡ replicate (length (take p work)) 0 → ys ≡ replicate p 0
+emptied p work ys h e = e ∙ ap (λ (n : ℕ). replicate n 0) (length-take-le p work h)

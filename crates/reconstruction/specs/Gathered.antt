@@ -6,9 +6,9 @@ use Rattle.morphology.specs.Labels.{label_at}
 use Rattle.morphology.specs.Partial.{partial_union}
 use Rattle.morphology.specs.Point.{Point}
 use Rattle.morphology.specs.Refusals.{is_wild}
-use Rattle.raster.specs.Frames.{Frame}
+use Rattle.raster.specs.Frames.{Frame, Sheet}
 use Rattle.label_read.specs.Points.{Tops}
-use Rattle.iteration.specs.Steps.{Sheet, dilated}
+use Rattle.iteration.specs.Steps.{dilated}
 
 -- the points of sizes from n on, still to be dilated n times
 abbrev pub gathered : ℕ → ℕ → List Point → List ℕ → ℕ → (Point → Bool)

@@ -2,7 +2,7 @@
 use mathlib.Core.Bool.{Bool, ◌&&◌, false, not, true}
 use mathlib.Core.List.{List, ◌∷◌}
 use mathlib.Core.Path.{◌∙◌, ◌≡◌, ap, ap₂, refl, sym}
-use Prim.Native.Nat.{◌%◌, ◌*◌, ◌+◌, ◌-◌, ◌/◌, ◌<◌, ◌^◌, ◌≤◌, suc, zero, ℕ}
+use Prim.Native.Nat.{◌%◌, ◌*◌, ◌+◌, ◌-◌, ◌/◌, ◌<◌, ◌^◌, ◌≤◌, ℕ}
 use native.Mathlib.Decide.{dec_le}
 use native.Mathlib.Nat.{mul-le-mul_right}
 use native.Mathlib.Omega.{arith}
@@ -20,22 +20,6 @@ use Rattle.morphology.proofs.TestLaws.{and_l, and_r}
 use Rattle.raster.specs.Frames.{Frame}
 
 -- ---- row 1
-
-pub side-zero : (n : ℕ) → n ≡ 0 → false ≡ is_side n
-side-zero n e = sym (ap is_side e)
-
-pub side-some : (n : ℕ) → (n ≡ 0 → ⊥) → leb n max_side ≡ is_side n
-side-some n e = sym (ap (λ (b : Bool). b && leb n max_side) (le-leb 1 n (some n e)))
-  where
-    some : (n : ℕ) → (n ≡ 0 → ⊥) → 1 ≤ n
-    some zero f = absurd (f refl)
-    some (suc n) f = omega arith
-
-pub sides_bad : (w h : ℕ) → is_side w ≡ false → true ≡ (row1 w h).1
-sides_bad w h e = sym (ap (λ (b : Bool). not (b && is_side h)) e)
-
-pub sides_other : (w h : ℕ) → is_side w ≡ true → not (is_side h) ≡ (row1 w h).1
-sides_other w h e = sym (ap (λ (b : Bool). not (b && is_side h)) e)
 
 -- what row 1 leaves
 pub record Sides (w h : ℕ) : Type 0 where
@@ -69,16 +53,12 @@ pub record Shaped (w h e : ℕ) (wrong : List Bool) (rows : List Row) : Type 0 w
   pub lengths : NoneWrong wrong
   pub rest : Clear rows
 
-pub shaped : (w h e : ℕ) (wrong : List Bool) (rows : List Row) {r : ℕ} → T (numbered rows) → r ≡ first_refusal (row1 w h ∷ row2 e ∷ row3 wrong ∷ rows) → r ≡ 0
-    → Shaped w h e wrong rows
-shaped w h e wrong rows t q z =
-    let c = clear-out (row1 w h ∷ row2 e ∷ row3 wrong ∷ rows) t (sym q ∙ z) in
+pub shaped : (w h e : ℕ) (wrong : List Bool) (rows : List Row) → T (numbered rows) → 0 ≡ first_refusal (row1 w h ∷ row2 e ∷ row3 wrong ∷ rows) → Shaped w h e wrong rows
+shaped w h e wrong rows t q =
+    let c = clear-out (row1 w h ∷ row2 e ∷ row3 wrong ∷ rows) t (sym q) in
     record { sides = sides_of w h c.0; element = T_of-not (is_element e) c.1.0; lengths = lengths-out wrong c.1.1.0; rest = c.1.1.1 }
 
 -- ---- row 3, of any sides
-
-pub product_lt : (a b : ℕ) → a < 2 ^ 32 → b < 2 ^ 32 → a * b < 2 ^ 64
-product_lt a b p q = let l : a ≤ 2 ^ 32 - 1 = omega arith in omega (arith, mul-le-mul_right b l)
 
 pub plane_lt : (w h : ℕ) → w < 2 ^ 32 → h < 2 ^ 32 → h * ((w + 7) / 8) < 2 ^ 61
 plane_lt w h p q = let l : h ≤ 2 ^ 32 - 1 = omega arith in omega (arith, mul-le-mul_right ((w + 7) / 8) l)

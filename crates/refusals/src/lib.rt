@@ -1,9 +1,56 @@
 // The tests of the table of refusals that operations share, and their order.
 #![tactic(auto)]
 
-ghost use Rattle.std.specs.Prelude.{◌≡◌, cond, false, [], ◌∷◌, ◌<◌, eqb};
+ghost use Rattle.std.specs.Prelude.{◌≡◌, ◌*◌, false, not, [], ◌∷◌, ◌<◌, eqb, length};
 ghost use Rattle.morphology.specs.Image.{plane_bytes};
-ghost use Rattle.morphology.specs.Refusals.{is_side, not_plane, not_places, short_planes, short_work, row1, row2, row3, row4, row7, first_refusal};
+ghost use Rattle.morphology.specs.Refusals.{is_side, not_plane, short_planes, short_work, row1, row2, row3, row4, row7, first_refusal};
+ghost use Rattle.refusals.specs.Refusal.{number_of, refusal_of};
+
+// Why a call is refused: the rows of the table, in its order.
+#[derive(Clone, Copy, Debug, PartialEq, Eq)]
+pub enum Refusal {
+    Sides,
+    Element,
+    Lengths,
+    Padding,
+    Labels,
+    Mask,
+    Limit,
+    Room,
+    Stream,
+    Rest,
+    Map,
+}
+
+impl Refusal {
+    // The test of a row: refused where it holds.
+    pub fn when(self, holds: bool) -> Result<(), Refusal>
+        ensures { refusal_of result ≡ first_refusal ((number_of self, holds) ∷ []) }
+    {
+        if holds { Err(self) } else { Ok(()) }
+    }
+}
+
+// The row's number.
+impl From<Refusal> for u8 {
+    ghost from_gives = { λ refusal n. n ≡ number_of refusal };
+
+    fn from(refusal: Refusal) -> u8 {
+        match refusal {
+            Refusal::Sides => 1,
+            Refusal::Element => 2,
+            Refusal::Lengths => 3,
+            Refusal::Padding => 4,
+            Refusal::Labels => 5,
+            Refusal::Mask => 6,
+            Refusal::Limit => 7,
+            Refusal::Room => 8,
+            Refusal::Stream => 9,
+            Refusal::Rest => 10,
+            Refusal::Map => 11,
+        }
+    }
+}
 
 // The largest side, cut and n.
 pub const MAX_SIDE: u32 = 255;
@@ -54,9 +101,9 @@ pub fn not_plane(w: u32, h: u32, s: &[u8]) -> bool
     s.len() != plane_bytes(w, h)
 }
 
-// Row 3: labels are not W times H.
-pub fn not_places(w: u32, h: u32, m: &[u8]) -> bool
-    ensures { result ≡ not_places w h m.now }
+// Row 3: labels or counters are not W times H.
+pub fn not_places<T>(w: u32, h: u32, m: &[T]) -> bool
+    ensures { result ≡ not (eqb (length m.now) (w * h)) }
 {
     m.len() != w as usize * h as usize
 }
@@ -92,67 +139,44 @@ pub fn above_max(n: u32) -> bool
     MAX_SIDE < n
 }
 
-// A row's number where it holds; else 0.
-pub fn row(number: u8, holds: bool) -> u8
-    ensures { result ≡ first_refusal ((number, holds) ∷ []) }
-{
-    if holds {
-        return number;
-    }
-    0
-}
-
-// The answer to rows of which the first are answered by a, the others by b.
-pub fn first(a: u8, b: u8) -> u8
-    ensures { result ≡ cond (eqb a 0) b a }
-{
-    if a != 0 {
-        return a;
-    }
-    b
-}
-
 // Rows 1 and 2.
-pub fn sides_and_element(w: u32, h: u32, element: u32) -> u8
-    ensures { result ≡ first_refusal (row1 w h ∷ row2 element ∷ []) }
+pub fn sides_and_element(w: u32, h: u32, element: u32) -> Result<(), Refusal>
+    ensures { refusal_of result ≡ first_refusal (row1 w h ∷ row2 element ∷ []) }
 {
-    let sides = row(1, bad_sides(w, h));
-    let points = row(2, bad_element(element));
-    first(sides, points)
+    Refusal::Sides.when(bad_sides(w, h))?;
+    Refusal::Element.when(bad_element(element))
 }
 
 // Rows 1, 2 and 3 of a call with three buffers, whose lengths are wrong or not.
-pub fn shape_rows(w: u32, h: u32, element: u32, a: bool, b: bool, c: bool) -> u8
-    ensures { result ≡ first_refusal (row1 w h ∷ row2 element ∷ row3 (a ∷ b ∷ c ∷ []) ∷ []) }
+pub fn shape_rows(w: u32, h: u32, element: u32, a: bool, b: bool, c: bool) -> Result<(), Refusal>
+    ensures { refusal_of result ≡ first_refusal (row1 w h ∷ row2 element ∷ row3 (a ∷ b ∷ c ∷ []) ∷ []) }
 {
-    let early = sides_and_element(w, h, element);
-    let wrong = row(3, a | (b | c));
-    first(early, wrong)
+    sides_and_element(w, h, element)?;
+    Refusal::Lengths.when(a | (b | c))
 }
 
 // Rows 3 and 4 of a call that reads an image and has two other buffers, whose lengths are wrong or not.
-pub fn image_rows(w: u32, h: u32, image: &[u8], other: bool, short: bool) -> u8
+pub fn image_rows(w: u32, h: u32, image: &[u8], other: bool, short: bool) -> Result<(), Refusal>
     requires { (row1 w h).1 ≡ false }
-    ensures { result ≡ first_refusal (row3 (not_plane w h image.now ∷ other ∷ short ∷ []) ∷ row4 w h image.now ∷ []) }
+    ensures { refusal_of result ≡ first_refusal (row3 (not_plane w h image.now ∷ other ∷ short ∷ []) ∷ row4 w h image.now ∷ []) }
 {
-    if not_plane(w, h, image) {
-        return 3;
-    }
-    let lengths = first(row(3, other), row(3, short));
-    let padding = row(4, bad_padding(w, h, image));
-    first(lengths, padding)
+    Refusal::Lengths.when(not_plane(w, h, image) | (other | short))?;
+    Refusal::Padding.when(bad_padding(w, h, image))
 }
 
 // Rows 1 to 4 of a call that reads an image and has work and perhaps another buffer, whose length is wrong or not.
-pub fn image_refusal(w: u32, h: u32, element: u32, image: &[u8], other: bool, work: &[u8]) -> u8
-    ensures { result ≡ first_refusal
+pub fn image_refusal(
+    w: u32,
+    h: u32,
+    element: u32,
+    image: &[u8],
+    other: bool,
+    work: &[u8],
+) -> Result<(), Refusal>
+    ensures { refusal_of result ≡ first_refusal
         (row1 w h ∷ row2 element ∷ row3 (not_plane w h image.now ∷ other ∷ short_work w h work.now ∷ [])
         ∷ row4 w h image.now ∷ []) }
 {
-    let numbers = sides_and_element(w, h, element);
-    if numbers != 0 {
-        return numbers;
-    }
-    let short = short_work(w, h, work);
-    image_rows(w, h, image, other, short)
+    sides_and_element(w, h, element)?;
+    image_rows(w, h, image, other, short_work(w, h, work))
 }

@@ -28,8 +28,6 @@
 
 ghost use Rattle.std.specs.Prelude.{◌≡◌, ◌*◌, length};
 
-use input::Input;
-
 // The longest buffer that is read, and that is lent.
 const LONG: usize = 1048576;
 
@@ -38,21 +36,18 @@ const SIZE: usize = 65536;
 // Calls in a run; more than any input has.
 const CALLS: u64 = 1 << 63;
 
-// Fills a buffer from standard input; whether all of it was there.
-fn fill(rt: &HostRuntime, s: &mut [u8]) -> bool {
-    let read = input::read_all(&mut rt.stdin(), s);
-    match read {
-        Input::Read(count) => count == s.len(),
-        Input::Failed => false,
-    }
+// Fills a buffer from standard input; none where not all of it was there.
+fn fill(rt: &HostRuntime, s: &mut [u8]) -> Option<()> {
+    let count = input::read_all(&mut rt.stdin(), s).ok()?;
+    (count == s.len()).then_some(())
 }
 
-// Writes to standard output; whether that could be done.
-fn put(rt: &HostRuntime, s: &[u8]) -> bool {
-    rt.write_all(s).is_ok()
+// Writes to standard output; none where that could not be done.
+fn put(rt: &HostRuntime, s: &[u8]) -> Option<()> {
+    rt.write_all(s).ok()
 }
 
-// Reads the buffers of a call, which have its lengths, makes the call and writes its reply; whether all of it could be done.
+// Reads the buffers of a call, which have its lengths, makes the call and writes its reply; none where not all of it could be done.
 fn serve(
     rt: &HostRuntime,
     header: &[u8; calls::HEADER],
@@ -61,26 +56,21 @@ fn serve(
     z: &mut [u8],
     c: &mut [u8],
     counters: &mut [u16],
-) -> bool
+) -> Option<()>
     requires { length c.old ≡ 2 * length counters.old }
 {
-    if !fill(rt, x) {
-        return false;
-    }
-    if !fill(rt, y) {
-        return false;
-    }
-    if !fill(rt, z) {
-        return false;
-    }
-    if !fill(rt, c) {
-        return false;
-    }
+    fill(rt, x)?;
+    fill(rt, y)?;
+    fill(rt, z)?;
+    fill(rt, c)?;
     let reply = calls::answer(header, &x[..], y, z, c, counters);
-    put(rt, &reply) && put(rt, &y[..]) && put(rt, &z[..]) && put(rt, &c[..])
+    put(rt, &reply)?;
+    put(rt, &y[..])?;
+    put(rt, &z[..])?;
+    put(rt, &c[..])
 }
 
-// Reads a call that fits the buffers, makes it and writes its reply; whether there was one.
+// Reads a call that fits the buffers, makes it and writes its reply; none where there was none.
 fn turn(
     rt: &HostRuntime,
     x: &mut [u8],
@@ -88,29 +78,24 @@ fn turn(
     z: &mut [u8],
     c: &mut [u8],
     counters: &mut [u16],
-) -> bool {
+) -> Option<()> {
     let mut header = [0u8; calls::HEADER];
-    if !fill(rt, &mut header) {
-        return false;
-    }
+    fill(rt, &mut header)?;
     let xs = numbers::number(&header, 17) as usize;
     let ys = numbers::number(&header, 21) as usize;
     let zs = numbers::number(&header, 25) as usize;
     let cs = numbers::number(&header, 29) as usize;
-    if header[0] > 10 || xs > x.len() || ys > y.len() || zs > z.len() {
-        return false;
-    }
-    if cs > counters.len() || 2 * cs > c.len() {
-        return false;
+    if header[0] > 10 {
+        return None;
     }
     serve(
         rt,
         &header,
-        &mut x[..xs],
-        &mut y[..ys],
-        &mut z[..zs],
-        &mut c[..2 * cs],
-        &mut counters[..cs],
+        x.get_mut(..xs)?,
+        y.get_mut(..ys)?,
+        z.get_mut(..zs)?,
+        c.get_mut(..2 * cs)?,
+        counters.get_mut(..cs)?,
     )
 }
 
@@ -120,11 +105,9 @@ fn main(rt: HostRuntime) {
     let mut z = [0u8; SIZE];
     let mut c = [0u8; 2 * SIZE];
     let mut counters = [0u16; SIZE];
-    let mut made: u64 = 0;
-    while made < CALLS {
-        if !turn(&rt, &mut x, &mut y, &mut z, &mut c, &mut counters) {
+    for _ in 0..CALLS {
+        if turn(&rt, &mut x, &mut y, &mut z, &mut c, &mut counters).is_none() {
             return;
         }
-        made = made + 1;
     }
 }

@@ -7,13 +7,13 @@ use Prim.Native.Nat.{◌%◌, ◌*◌, ◌+◌, ◌-◌, ◌/◌, ◌<◌, ◌^�
 use native.Mathlib.Nat.{div-eq_of_lt, lt_irrefl, mod-eq_of_lt, mod-lt, mod-one, pow-suc, zero-lt-suc}
 use native.Mathlib.Omega.{arith}
 use lib.Bits.{bit_and, bit_xor}
-use lib.Count.{leading_unique, count_leading_zeros, ones, count_trailing_zeros, under}
+use lib.Count.{leading_le, leading_unique, count_leading_zeros, ones, ones-le, count_trailing_zeros, under}
 use lib.Dec.{T, eqb, eqb→eq, ltb, ltb→lt, nltb→le}
 use lib.ListN.{length, length-append, length-map}
 use lib.Pow.{high}
 use Rattle.coding.specs.Symbols.{comma, digit_symbols, numeral}
 use Rattle.coding.specs.Writing.{runs_symbols}
-use Rattle.coding.proofs.NumeralLaws.{length-small}
+use Rattle.coding.proofs.NumeralLaws.{length_le, length-small}
 use Rattle.morphology.specs.Element.{bit}
 use Rattle.morphology.proofs.BitLaws.{bit-and, bit-xor}
 use Rattle.sections.specs.Kinds.{Kind, count_after, kind, runs_of}
@@ -195,6 +195,10 @@ abbrev pub DenseMeasured : ℕ → ℕ → Type 0
 DenseMeasured k v = (0 < ones v) × (size k 64 v + 1 ≡ length (numeral (k + count_leading_zeros 64 v)) + 2 * ones v)
 
 module _ (k v : ℕ) (dense : Dense 64 v) (fits : v < 2 ^ 64) where
+  -- few enough symbols for the code's numbers
+  pub dense-few : (d : ℕ) → d ≡ length (numeral (k + count_leading_zeros 64 v)) → k < 2 ^ 24 → d + 2 * ones v < 20000000
+  dense-few d e l = omega (arith, e, length_le (k + count_leading_zeros 64 v), leading_le 64 v, ones-le 64 v fits)
+
   pub dense-size : DenseMeasured k v
   dense-size = by (sized k 64 v dense)
     where

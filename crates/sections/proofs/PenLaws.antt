@@ -3,7 +3,7 @@ use mathlib.Core.Bool.{Bool, false, true}
 use mathlib.Core.List.{List, [], ◌++◌, ◌∷◌}
 use mathlib.Core.Path.{◌∙◌, ◌≡◌, ap, ap₂, refl, subst, sym}
 use Prim.Native.Nat.{◌*◌, ◌+◌, ◌-◌, ◌<◌, ◌≤◌, suc, zero, ℕ}
-use native.Mathlib.Nat.{add-suc, add-zero, lt_irrefl, suc-add}
+use native.Mathlib.Nat.{add-suc, add-zero, suc-add}
 use native.Mathlib.Omega.{arith}
 use lib.Dec.{T}
 use lib.ListN.{get_or, length, length-append, length-map, replicate, replicate-append-replicate, set}
@@ -140,52 +140,30 @@ empty-comma {down} {s} {j} t r =
     let d = subst T (sym t) tt in
     (omega (arith, r.inside d, length_one 0), ap (λ (i : ℕ). get_or (symbols_of s) i 0) (sym (add-zero j)) ∙ r.commas d 0 (omega (arith, length_one 0)))
 
--- some of n empty runs are written, up to j
-pub record EmptyMarked (down : Bool) (n : ℕ) (old new : List ℕ) (at j : ℕ) : Type 0 where
-  pub done : ℕ
-  pub left : ℕ
-  pub whole : n ≡ done + left
-  pub marked : Marked down (replicate done 0) old new at j
-
 -- none at first
-pub emptied-none : (down : Bool) (n : ℕ) (old : List ℕ) (at : ℕ) → EmptyMarked down n old old at at
-emptied-none down n old at = record { done = 0; left = n; whole = omega arith; marked = marked-none down old at }
+pub emptied-none : (down : Bool) (old : List ℕ) (at : ℕ) → Marked down (replicate 0 0) old old at (at + 2 * 0)
+emptied-none down old at = subst (λ (j : ℕ). Marked down [] old old at j) (sym (add-zero at)) (marked-none down old at)
 
-module _ (down : Bool) (n : ℕ) (old new : List ℕ) (at j : ℕ) (p : EmptyMarked down n old new at j) where
-  here : j ≡ at + 2 * p.done
-  here = p.marked.pen ∙ ap (λ (k : ℕ). at + k) (length-empty p.done)
-
+-- k of n empty runs are written
+module _ (down : Bool) (n k : ℕ) (old new : List ℕ) (at : ℕ) (some : k < n) (room : PenRoom down old at (replicate n 0))
+    (done : Marked down (replicate k 0) old new at (at + 2 * k)) where
   -- the next has its commas
-  pub emptied-room : j < at + 2 * n → PenRoom down old at (replicate n 0) → PenRoom down new j (0 ∷ [])
-  emptied-room l r = go p.left p.whole
-    where
-      go : (left : ℕ) → n ≡ p.done + left → PenRoom down new j (0 ∷ [])
-      go zero e = absurd (lt_irrefl j (omega (arith, here)))
-      go (suc m) e =
-          let parts : replicate {A = ℕ} n 0 ≡ replicate p.done 0 ++ replicate (suc m) 0 =
-          ap (λ (k : ℕ). replicate {A = ℕ} k 0) e ∙ sym (replicate-append-replicate {A = ℕ} p.done (suc m) 0) in
-          room_front (0 ∷ []) (replicate m 0) (room_next (replicate (suc m) 0) (subst (PenRoom down old at) parts r) p.marked)
+  pub emptied-room : PenRoom down new (at + 2 * k) (0 ∷ [])
+  emptied-room =
+      let m = n - k - 1 in
+      let e : n ≡ k + suc m = omega arith in
+      let parts : replicate {A = ℕ} n 0 ≡ replicate k 0 ++ replicate (suc m) 0 =
+      ap (λ (i : ℕ). replicate {A = ℕ} i 0) e ∙ sym (replicate-append-replicate {A = ℕ} k (suc m) 0) in
+      room_front (0 ∷ []) (replicate m 0) (room_next (replicate (suc m) 0) (subst (PenRoom down old at) parts room) done)
 
   -- and is written by its digit
-  pub emptied_more : (next : List ℕ) → down ≡ true → j < at + 2 * n → PenRoom down old at (replicate n 0) → symbols_of next ≡ set (symbols_of new) j 1
-      → EmptyMarked down n old next at (j + 2)
-  emptied_more next t l r e =
-      let d : symbols_of next ≡ sets (symbols_of new) j (digit_symbols (numeral 0)) =
-      e ∙ ap (λ (ds : List ℕ). sets (symbols_of new) j (digit_symbols ds)) (sym (numeral-small 0 (omega arith))) in
-      let q = down_one down 0 new j (j + 2) (omega (arith, length-small 0 (omega arith))) next t (emptied-room l r) d in
-      record {
-        done = p.done + 1;
-        left = p.left - 1;
-        whole = omega (arith, here, p.whole);
-        marked = subst (λ (rs : List ℕ). Marked down rs old next at (j + 2)) (replicate-append-replicate p.done 1 0) (marked_append p.marked q);
-      }
-
-  -- until none is left
-  pub emptied_done : at + 2 * n ≤ j → Marked down (replicate n 0) old new at (at + 2 * n)
-  emptied_done l =
-      let e : p.done ≡ n = omega (arith, here, p.whole) in
-      let i : j ≡ at + 2 * n = omega (arith, here, e) in
-      subst (λ (k : ℕ). Marked down (replicate n 0) old new at k) i (subst (λ (k : ℕ). Marked down (replicate k 0) old new at j) e p.marked)
+  pub emptied_more : (next : List ℕ) → down ≡ true → symbols_of next ≡ set (symbols_of new) (at + 2 * k) 1
+      → Marked down (replicate (k + 1) 0) old next at (at + 2 * (k + 1))
+  emptied_more next t e =
+      let d : symbols_of next ≡ sets (symbols_of new) (at + 2 * k) (digit_symbols (numeral 0)) =
+      e ∙ ap (λ (ds : List ℕ). sets (symbols_of new) (at + 2 * k) (digit_symbols ds)) (sym (numeral-small 0 (omega arith))) in
+      let q = down_one down 0 new (at + 2 * k) (at + 2 * (k + 1)) (omega (arith, length-small 0 (omega arith))) next t emptied-room d in
+      subst (λ (rs : List ℕ). Marked down rs old next at (at + 2 * (k + 1))) (replicate-append-replicate k 1 0) (marked_append done q)
 
 -- ---- walks
 

@@ -12,6 +12,8 @@ use lib.Dec.{T, eqb, eqb→eq}
 use lib.IntN.{pos}
 use lib.Count.{ones}
 use lib.ListN.{drop, get_or, length, length-drop, replicate, take}
+use Rattle.std.specs.Int.{from_be_bytes}
+use Rattle.std.proofs.Common.{w64}
 use lib.Pow.{high, pow-add, shr_lt, shr-shr}
 use lib.Seq.{get_or-drop, get_or-take, length-take-le}
 use Rattle.morphology.specs.Element.{bit}
@@ -66,6 +68,18 @@ word_byte_lem s i k v h p = record { small = subst (λ (m : ℕ). v * 256 + d < 
         let z : 8 * (i + k) + u ≡ 8 * i + t = omega arith in
         ap (bit (v * 256 + d)) e ∙ ap (λ (n : ℕ). eqb n 1) (below_top v 8 d (7 - u) (omega arith)) ∙ sym (row_bit-at s (i + k) u (omega arith)) ∙ ap (row_bit s) z
 
+-- eight bytes, the first worth most
+abbrev pub eight : List ℕ → ℕ → List ℕ
+eight s i =
+    get_or s i 0 ∷ get_or s (i + 1) 0 ∷ get_or s (i + 2) 0 ∷ get_or s (i + 3) 0 ∷ get_or s (i + 4) 0 ∷ get_or s (i + 5) 0 ∷ get_or s (i + 6) 0
+    ∷ get_or s (i + 7) 0 ∷ []
+
+pub word_eight : (s : List ℕ) (i v : ℕ) → ((k : ℕ) → get_or s k 0 < 256) → v ≡ from_be_bytes w64 (eight s i) → Word s (8 * i) 64 v
+word_eight s i v h e =
+    let more = λ (k u : ℕ) (w : Word s (8 * i) (8 * k) u). word_byte_lem s i k u (h (i + k)) w in
+    subst (Word s (8 * i) 64) (omega (arith, e, ap (λ (k : ℕ). get_or s k 0) (add-zero i)))
+    (more 7 _ (more 6 _ (more 5 _ (more 4 _ (more 3 _ (more 2 _ (more 1 _ (more 0 _ (word_none s (8 * i))))))))))
+
 -- m pixels, where m is at most n
 pub word_small : {s : List ℕ} {x m v : ℕ} (n : ℕ) → Word s x m v → m ≤ n → v < 2 ^ n
 word_small {s} {x} {m} {v} n p h = lt_of_lt_of_le p.small (pow-le-pow_right (zero-lt-suc 1) h)
@@ -103,6 +117,14 @@ word_kinds_lem s a b m ink mask p q =
     word_row (row_kind s a b) 0 m ink mask (λ t l.
     ap₂ kind (q.pixels t l ∙ ap (λ (i : ℕ). row_bit s (8 * b + i)) (sym (zero-add t)))
     (p.pixels t l ∙ ap (λ (i : ℕ). row_bit s (8 * a + i)) (sym (zero-add t))))
+
+-- and so are the first m of n pixels of two
+pub word_few : (s : List ℕ) (a b n m ink mask : ℕ) → m ≤ n → Word s (8 * a) n ink → Word s (8 * b) n mask
+    → (ink / 2 ^ (n - m) < 2 ^ m) × (mask / 2 ^ (n - m) < 2 ^ m) × (word_kinds m (ink / 2 ^ (n - m)) (mask / 2 ^ (n - m)) ≡ row_kinds s a b 0 m)
+word_few s a b n m ink mask h p q =
+    let i = word_first s (8 * a) n m ink h p in
+    let j = word_first s (8 * b) n m mask h q in
+    (i.small, j.small, word_kinds_lem s a b m (ink / 2 ^ (n - m)) (mask / 2 ^ (n - m)) i j)
 
 -- ---- walks over a table of pixels
 
@@ -145,12 +167,12 @@ table-count {down} {old} {new} {at} {k} {at'} {k'} f x p = omega (arith, p.count
 
 -- ---- rows
 
--- from byte x / 8 on
-pub row_on : (s : List ℕ) (a b x m : ℕ) → x % 8 ≡ 0 → tabulate (row_kind s a b) x m ≡ row_kinds s (a + x / 8) (b + x / 8) 0 m
-row_on s a b x m e =
-    row_agree (row_kind s a b) (row_kind s (a + x / 8) (b + x / 8)) x 0 m (λ t l.
-    let ea : 8 * a + (x + t) ≡ 8 * (a + x / 8) + (0 + t) = omega arith in
-    let eb : 8 * b + (x + t) ≡ 8 * (b + x / 8) + (0 + t) = omega arith in
+-- from pixel x, in byte y, on
+pub row_on : (s : List ℕ) (a b x y m : ℕ) → x ≡ 8 * y → tabulate (row_kind s a b) x m ≡ row_kinds s (a + y) (b + y) 0 m
+row_on s a b x y m e =
+    row_agree (row_kind s a b) (row_kind s (a + y) (b + y)) x 0 m (λ t l.
+    let ea : 8 * a + (x + t) ≡ 8 * (a + y) + (0 + t) = omega arith in
+    let eb : 8 * b + (x + t) ≡ 8 * (b + y) + (0 + t) = omega arith in
     ap₂ (λ (i j : ℕ). kind (row_bit s i) (row_bit s j)) eb ea)
 
 -- ---- walks over rows of a plane

@@ -4,15 +4,15 @@ use mathlib.Core.List.{List, [], ◌++◌, ◌∷◌, append_assoc}
 use mathlib.Core.Path.{◌∙◌, ◌≡◌, ap, ap₂, refl, subst, sym}
 use Prim.Native.Nat.{◌%◌, ◌*◌, ◌+◌, ◌-◌, ◌/◌, ◌<◌, ◌^◌, ◌≤◌, suc, zero, ℕ}
 use native.Mathlib.Nat.{le_of_lt, le_of_suc-le-suc, le_refl, le_trans, lt_of_le_of_lt, lt_of_lt_of_le, lt_of_not-le, not-le_of_lt, not-suc-le-zero, zero-lt-suc}
-use native.Mathlib.Nat.{div-eq_of_lt, mod-eq_of_lt, mod-le, mod-lt, mod-one, one-mul, pow-suc, sub-zero, zero-div}
+use native.Mathlib.Nat.{mod-eq_of_lt, mod-le, mod-lt, mod-one, one-mul, pow-suc, zero-div}
 use native.Mathlib.Numerals.{one-add}
 use native.Mathlib.Omega.{arith}
 use borrow.Author.Tests.{eqb-false}
 use lib.Bits.{bit_or, bit_xor, or_lt, or_self, xor_lt, xor_self}
-use lib.Count.{leading_length, leading_top, count_leading_zeros, ones, ones_cat, ones-le, ones-ones, ones_step, ones_in}
+use lib.Count.{leading_length, leading_top, count_leading_zeros, ones, ones_cat, ones-ones, ones_step, ones_in}
 use lib.Dec.{eqb}
 use lib.ListN.{replicate}
-use lib.Pow.{field, high, low, mod-mod-pow, mod-pow-add, ones_lt, ones_split, ones_sub-lt, pow_mono, pow_pos, shl_exact, shr_le, shr_lt, shr-shr}
+use lib.Pow.{field, high, low, mod-mod-pow, mod-pow-add, ones_lt, ones_split, ones_sub-lt, pow_mono, pow_pos, shl_exact, shr_lt, shr-shr}
 use Rattle.morphology.specs.Element.{bit}
 use Rattle.morphology.proofs.BitLaws.{bit-or, bit-xor}
 use Rattle.sections.specs.Kinds.{Kind, count_after, free, kind, masked, point, runs_of}
@@ -36,10 +36,6 @@ power_pos h l = subst (λ (p : ℕ). 0 < p) (sym (power_is h l)) (pow_pos h)
 -- what is left below bit h
 pub low_lt : (n h : ℕ) → h < 64 → n % power h < 2 ^ h
 low_lt n h l = subst (λ (p : ℕ). n % p < 2 ^ h) (sym (power_is h l)) (mod-lt n (pow_pos h))
-
--- no more ones from bit h on than 64
-pub ones-high : (n f h : ℕ) → n ≤ 64 → f < 2 ^ n → ones (f / 2 ^ h) ≤ 64
-ones-high n f h l k = ones-le 64 (f / 2 ^ h) (lt_of_le_of_lt (shr_le f h) (lt_of_lt_of_le k (pow_mono l)))
 
 -- ---- the highest points of h pixels: h less the length of the gaps
 
@@ -82,10 +78,6 @@ module _ (h left : ℕ) (small : h < 64) (fits : left < 2 ^ h) where
         omega (arith, top_le),
         ap (λ (t : ℕ). left / 2 ^ t) (sym j) ∙ ap (λ (t : ℕ). t / 2 ^ m) e ∙ high (2 ^ n - 1) m (ones_sub-lt m (gaps h left)),
       )
-
--- none where the highest pixel is no point
-pub leading-none : (h left : ℕ) → left < 2 ^ h → (0 ≤ h) × (left / 2 ^ (h - 0) ≡ 2 ^ 0 - 1)
-leading-none h left l = (omega arith, ap (λ (t : ℕ). left / 2 ^ t) (sub-zero h) ∙ div-eq_of_lt l)
 
 -- ---- bits of a number's parts
 
@@ -260,9 +252,6 @@ reach d = (2 ^ 64 - 1) / 2 ^ (63 - d)
 reach_is : (d : ℕ) → d < 64 → reach d ≡ 2 ^ (d + 1) - 1
 reach_is d l = let e : 63 - d ≡ 64 - (d + 1) = omega arith in ap (λ (x : ℕ). (2 ^ 64 - 1) / 2 ^ x) e ∙ all_ones (d + 1) (omega arith)
 
-pub reach_pos : (d : ℕ) → d < 64 → 0 < reach d
-reach_pos d l = let p = pow_mono {i = 1} {j = d + 1} (omega arith) in subst (λ (x : ℕ). 0 < x) (sym (reach_is d l)) (omega arith)
-
 -- where all but the point are free, d are
 pub ones-reach : (d : ℕ) → d < 64 → ones (reach d - 1) ≡ d
 ones-reach d l =
@@ -321,7 +310,10 @@ pub record Step (k height left rest : ℕ) (rs : List ℕ) (height' left' rest' 
 abbrev pub Top : ℕ → ℕ → Type 0
 Top left h = (h < 64) × (2 ^ h ≤ left) × (left < 2 ^ suc h)
 
-pub top-point : (left : ℕ) → 0 < left → left < 2 ^ 64 → (count_leading_zeros 64 left ≤ 63) × Top left (63 - count_leading_zeros 64 left)
+abbrev pub highest : ℕ → ℕ
+highest left = 63 - count_leading_zeros 64 left
+
+pub top-point : (left : ℕ) → 0 < left → left < 2 ^ 64 → (count_leading_zeros 64 left ≤ 63) × Top left (highest left)
 top-point left p l =
     let t = leading_top 64 left p l in
     let e : t.0 ≡ 63 - count_leading_zeros 64 left = omega (arith, t.1) in
@@ -445,6 +437,29 @@ module _ {down : Bool} {whole : List Kind} {old new : List ℕ} {at run j k heig
     apart = s.apart;
     count = omega arith;
   }
+
+  -- to the highest point that is left, at h, past n pixels that are counted
+  module _ (some : left ≡ 0 → ⊥) where
+    abbrev h : ℕ
+    h = highest left
+
+    pub walking-top : (count_leading_zeros 64 left ≤ 63) × Top left (highest left)
+    walking-top = top-point left (omega (arith, some)) walking-left
+
+    pub walking-below : highest left < height
+    walking-below = top_below height left h w.small walking-top.1
+
+    module _ (n : ℕ) (counted : n ≡ ones (rest / 2 ^ highest left)) where
+      pub walking-point : Step k height left rest ((k + n) ∷ []) (highest left) (left % power (highest left)) (rest % power (highest left))
+      walking-point = step-point k height left rest h w.small w.fits w.apart walking-top.1 n counted
+
+      -- and on through the m points right after it
+      pub walking-points : (m : ℕ) → (m ≤ highest left) × (left % power (highest left) / 2 ^ (highest left - m) ≡ 2 ^ m - 1)
+          → Step 0 (highest left) (left % power (highest left)) (rest % power (highest left)) (replicate m 0) (highest left - m)
+          (left % power (highest left) % power (highest left - m)) (rest % power (highest left) % power (highest left - m))
+      walking-points m e =
+          let t = walking-top.1.0 in
+          step-points h (left % power h) (rest % power h) m t walking-point.apart e.0 e.1
 
   -- until no point is left
   pub walking_done : left ≡ 0 → PenWalked down whole old new at run j (k + ones rest)

@@ -3,110 +3,95 @@
 
 mod words;
 
-ghost use Rattle.std.specs.Prelude.{◌≡◌, ◌+◌, ◌*◌, ◌/◌, ◌<◌, ◌≤◌, ◌^◌, T, length, drop};
+ghost use Rattle.std.specs.Prelude.{◌≡◌, ◌+◌, ◌*◌, ◌/◌, ◌<◌, ◌≤◌, ◌^◌, T, length, drop, min};
 ghost use Rattle.morphology.specs.Image.{image_set, is_clean, ones_of};
-ghost use Rattle.raster.specs.Frames.{Frame};
 ghost use Rattle.raster.specs.Limits.{max_frame};
 ghost use Rattle.sections.specs.Kinds.{runs_of, kinds_from};
 ghost use Rattle.sections.specs.Pens.{Marked, PenRoom, PenWalked};
 ghost use Rattle.sections.specs.Words.{Word, row_kinds};
 
+use raster::Frame;
 use words::Pen;
 
-// The n bytes from i on as one number.
-fn load(s: &[u8], i: usize, n: usize) -> u64
-    requires { (i + n ≤ length s.now) × (n ≤ 8) }
-    ensures { Word s.now (8 * i) (8 * n) result }
+// Eight bytes from i on as one number.
+fn load(s: &[u8], i: usize) -> u64
+    requires { i + 8 ≤ length s.now }
+    ensures { Word s.now (8 * i) 64 result }
 {
-    let mut v: u64 = 0;
-    let mut k: usize = 0;
-    while k < n {
-        v = v * 256 + (s[i + k] as u64);
-        k = k + 1;
-    }
-    v
+    u64::from_be_bytes([
+        s[i],
+        s[i + 1],
+        s[i + 2],
+        s[i + 3],
+        s[i + 4],
+        s[i + 5],
+        s[i + 6],
+        s[i + 7],
+    ])
 }
 
-// The same; eight bytes are one load.
+// The n bytes from i on as one number; eight bytes are one load.
 pub fn load_few(s: &[u8], i: usize, n: usize) -> u64
     requires { (i + n ≤ length s.now) × (n ≤ 8) }
     ensures { Word s.now (8 * i) (8 * n) result }
 {
     if n == 8 {
-        return load(s, i, 8);
+        return load(s, i);
     }
-    load(s, i, n)
+    let mut v: u64 = 0;
+    for k in 0..n {
+        v = v * 256 + s[i + k] as u64;
+    }
+    v
 }
 
 // The runs that end in the first m pixels of the rows at bytes a, of foreground, and b, of mask.
-fn walk_few(
-    down: bool,
-    s: &[u8],
-    a: usize,
-    b: usize,
-    m: usize,
-    at: usize,
-    run: u32,
-    out: &mut [u8],
-) -> Pen
-    requires { (0 < m) × (m ≤ 64) × (a + (m + 7) / 8 ≤ length s.now) × (b + (m + 7) / 8 ≤ length s.now) × (run < 2 ^ 24)
-        × PenRoom down out.old at (runs_of run (row_kinds s.now a b 0 m)) }
-    ensures { PenWalked down (row_kinds s.now a b 0 m) out.old out.new at run result.at result.run }
+fn walk_few(down: bool, s: &[u8], a: usize, b: usize, m: usize, pen: Pen, out: &mut [u8]) -> Pen
+    requires { (0 < m) × (m ≤ 64) × (a + (m + 7) / 8 ≤ length s.now) × (b + (m + 7) / 8 ≤ length s.now) × (pen.run < 2 ^ 24)
+        × PenRoom down out.old pen.at (runs_of pen.run (row_kinds s.now a b 0 m)) }
+    ensures { PenWalked down (row_kinds s.now a b 0 m) out.old out.new pen.at pen.run result.at result.run }
 {
     let n = (m + 7) / 8;
     let padding = (8 * n - m) as u32;
     let ink = load_few(s, a, n) >> padding;
     let mask = load_few(s, b, n) >> padding;
-    words::walk_word(down, m as u32, ink, mask, at, run, out)
+    words::walk_word(down, m as u32, ink, mask, pen, out)
 }
 
 // The same for 64 pixels, a whole word; where the rows are the same there it has no point, and where it is dense it is measured at once.
-fn walk_whole(down: bool, s: &[u8], a: usize, b: usize, at: usize, run: u32, out: &mut [u8]) -> Pen
-    requires { (a + 8 ≤ length s.now) × (b + 8 ≤ length s.now) × (run < 2 ^ 24) × PenRoom down out.old at (runs_of run (row_kinds s.now a b 0 64)) }
-    ensures { PenWalked down (row_kinds s.now a b 0 64) out.old out.new at run result.at result.run }
+fn walk_whole(down: bool, s: &[u8], a: usize, b: usize, pen: Pen, out: &mut [u8]) -> Pen
+    requires { (a + 8 ≤ length s.now) × (b + 8 ≤ length s.now) × (pen.run < 2 ^ 24) × PenRoom down out.old pen.at (runs_of pen.run (row_kinds s.now a b 0 64)) }
+    ensures { PenWalked down (row_kinds s.now a b 0 64) out.old out.new pen.at pen.run result.at result.run }
 {
-    let ink = load(s, a, 8);
-    let mask = load(s, b, 8);
+    let ink = load(s, a);
+    let mask = load(s, b);
     if ink == mask {
         return Pen {
-            at,
-            run: run + u64::count_ones(u64::MAX ^ mask),
+            at: pen.at,
+            run: pen.run + u64::count_ones(u64::MAX ^ mask),
         };
     }
     if words::is_dense(down, ink, mask) {
-        return words::measure_dense(at, run, ink);
+        return words::measure_dense(pen, ink);
     }
-    words::walk_word(down, 64, ink, mask, at, run, out)
+    words::walk_word(down, 64, ink, mask, pen, out)
 }
 
 // The same for rows of any width, by whole words and what is left.
-fn walk_row(
-    down: bool,
-    s: &[u8],
-    a: usize,
-    b: usize,
-    w: usize,
-    at: usize,
-    run: u32,
-    out: &mut [u8],
-) -> Pen
-    requires { (a + (w + 7) / 8 ≤ length s.now) × (b + (w + 7) / 8 ≤ length s.now) × (run + w < 2 ^ 24) × (w ≤ max_frame)
-        × PenRoom down out.old at (runs_of run (row_kinds s.now a b 0 w)) }
-    ensures { PenWalked down (row_kinds s.now a b 0 w) out.old out.new at run result.at result.run }
+fn walk_row(down: bool, s: &[u8], a: usize, b: usize, w: usize, mut pen: Pen, out: &mut [u8]) -> Pen
+    requires { (a + (w + 7) / 8 ≤ length s.now) × (b + (w + 7) / 8 ≤ length s.now) × (pen.run + w < 2 ^ 24) × (w ≤ max_frame)
+        × PenRoom down out.old pen.at (runs_of pen.run (row_kinds s.now a b 0 w)) }
+    ensures { PenWalked down (row_kinds s.now a b 0 w) out.old out.new pen.at pen.run result.at result.run }
 {
-    let mut j = at;
-    let mut k = run;
-    let mut x: usize = 0;
-    while x + 64 <= w {
-        let p = walk_whole(down, s, a + x / 8, b + x / 8, j, k, out);
-        j = p.at;
-        k = p.run;
-        x = x + 64;
+    for k in 0..w / 64 {
+        pen = walk_whole(down, s, a + 8 * k, b + 8 * k, pen, out);
     }
-    if x == w {
-        return Pen { at: j, run: k };
+    let left = w % 64;
+    if left == 0 {
+        return pen;
     }
-    walk_few(down, s, a + x / 8, b + x / 8, w - x, j, k, out)
+    let x = w / 64 * 8;
+    walk_few(down, s, a + x, b + x, left, pen, out)
 }
 
 // The foreground pixels of some bytes; none are counted where there is none.
@@ -121,105 +106,79 @@ pub fn ink_of(s: &[u8]) -> u32
 }
 
 // The runs that end in the n rows of the first plane under the plane at q; where the two are the same there is none, and what is not masked is counted at once.
-fn walk_block(
-    down: bool,
-    w: usize,
-    n: usize,
-    r: usize,
-    q: usize,
-    s: &[u8],
-    at: usize,
-    run: u32,
-    out: &mut [u8],
-) -> Pen
-    requires { Frame w n r × (n * r ≤ q) × (q + n * r ≤ length s.now) × T (is_clean w n (drop q s.now)) × (run + w * n < 2 ^ 24)
-        × PenRoom down out.old at (runs_of run (kinds_from w (image_set w n s.now) (image_set w n (drop q s.now)) 0 (w * n))) }
-    ensures { PenWalked down (kinds_from w (image_set w n s.now) (image_set w n (drop q s.now)) 0 (w * n))
-        out.old out.new at run result.at result.run }
+fn walk_block(down: bool, f: Frame, q: usize, s: &[u8], mut pen: Pen, out: &mut [u8]) -> Pen
+    requires { (f.h * f.r ≤ q) × (q + f.h * f.r ≤ length s.now) × T (is_clean f.w f.h (drop q s.now)) × (pen.run + f.w * f.h < 2 ^ 24)
+        × PenRoom down out.old pen.at (runs_of pen.run (kinds_from f.w (image_set f.w f.h s.now) (image_set f.w f.h (drop q s.now)) 0 (f.w * f.h))) }
+    ensures { PenWalked down (kinds_from f.w (image_set f.w f.h s.now) (image_set f.w f.h (drop q s.now)) 0 (f.w * f.h))
+        out.old out.new pen.at pen.run result.at result.run }
 {
-    if raster::same_rows(s, 0, q, n * r) {
-        let covered = ink_of(&s[q..q + n * r]);
-        let pixels = (w * n) as u32;
+    let Frame { w, h, r, .. } = f;
+    if raster::same_rows(s, 0, q, h * r) {
+        let covered = ink_of(&s[q..q + h * r]);
+        let pixels = (w * h) as u32;
         return Pen {
-            at,
-            run: run + (pixels - covered),
+            at: pen.at,
+            run: pen.run + (pixels - covered),
         };
     }
-    let mut j = at;
-    let mut k = run;
-    let mut y: usize = 0;
-    while y < n {
+    for y in 0..h {
         let a = y * r;
-        let p = walk_row(down, s, a, q + a, w, j, k, out);
-        j = p.at;
-        k = p.run;
-        y = y + 1;
+        pen = walk_row(down, s, a, q + a, w, pen, out);
     }
-    Pen { at: j, run: k }
+    pen
 }
+
+// The rows of a block.
+const BLOCK: usize = 4;
 
 // How many rows a block has that begins with row y: four, or those that are left.
 pub fn block_rows(y: usize, h: usize) -> usize
     requires { y < h }
-    ensures { (0 < result) × (y + result ≤ h) }
+    ensures { (0 < result) × (y + result ≤ h) × (y + result ≡ min (y + BLOCK) h) }
 {
-    if h - y < 4 {
-        return h - y;
-    }
-    4
+    (h - y).min(BLOCK)
 }
 
 // The runs that end in the h rows of the first plane under the plane at q, block by block.
-fn walk_blocks(
-    down: bool,
-    w: usize,
-    h: usize,
-    r: usize,
-    q: usize,
-    s: &[u8],
-    at: usize,
-    run: u32,
-    out: &mut [u8],
-) -> Pen
-    requires { Frame w h r × (h * r ≤ q) × (q + h * r ≤ length s.now) × T (is_clean w h (drop q s.now)) × (run + w * h < 2 ^ 24)
-        × PenRoom down out.old at (runs_of run (kinds_from w (image_set w h s.now) (image_set w h (drop q s.now)) 0 (w * h))) }
-    ensures { PenWalked down (kinds_from w (image_set w h s.now) (image_set w h (drop q s.now)) 0 (w * h))
-        out.old out.new at run result.at result.run }
+fn walk_blocks(down: bool, f: Frame, q: usize, s: &[u8], mut pen: Pen, out: &mut [u8]) -> Pen
+    requires { (f.h * f.r ≤ q) × (q + f.h * f.r ≤ length s.now) × T (is_clean f.w f.h (drop q s.now)) × (pen.run + f.w * f.h < 2 ^ 24)
+        × PenRoom down out.old pen.at (runs_of pen.run (kinds_from f.w (image_set f.w f.h s.now) (image_set f.w f.h (drop q s.now)) 0 (f.w * f.h))) }
+    ensures { PenWalked down (kinds_from f.w (image_set f.w f.h s.now) (image_set f.w f.h (drop q s.now)) 0 (f.w * f.h))
+        out.old out.new pen.at pen.run result.at result.run }
 {
-    let mut j = at;
-    let mut k = run;
-    let mut y: usize = 0;
-    while y < h {
+    let Frame { w, h, r, .. } = f;
+    for y in (0..h).step_by(BLOCK) {
         let n = block_rows(y, h);
-        let p = walk_block(down, w, n, r, q, &s[y * r..], j, k, out);
-        j = p.at;
-        k = p.run;
-        y = y + n;
+        let band = Frame {
+            w,
+            h: n,
+            r,
+            p: n * r,
+        };
+        pen = walk_block(down, band, q, &s[y * r..], pen, out);
     }
-    Pen { at: j, run: k }
+    pen
 }
 
 // The runs that end in the h rows of the first plane under the plane at q, where `run` pixels were counted before them; none where the two are the same.
 // Answers where the pen stands.
 pub fn walk_plane(
     down: bool,
-    w: usize,
-    h: usize,
-    r: usize,
+    f: Frame,
     q: usize,
     s: &[u8],
     at: usize,
     run: u32,
     out: &mut [u8],
 ) -> usize
-    requires { Frame w h r × (h * r ≤ q) × (q + h * r ≤ length s.now) × T (is_clean w h (drop q s.now)) × (run + w * h < 2 ^ 24)
-        × PenRoom down out.old at (runs_of run (kinds_from w (image_set w h s.now) (image_set w h (drop q s.now)) 0 (w * h))) }
-    ensures { Marked down (runs_of run (kinds_from w (image_set w h s.now) (image_set w h (drop q s.now)) 0 (w * h)))
+    requires { (f.h * f.r ≤ q) × (q + f.h * f.r ≤ length s.now) × T (is_clean f.w f.h (drop q s.now)) × (run + f.w * f.h < 2 ^ 24)
+        × PenRoom down out.old at (runs_of run (kinds_from f.w (image_set f.w f.h s.now) (image_set f.w f.h (drop q s.now)) 0 (f.w * f.h))) }
+    ensures { Marked down (runs_of run (kinds_from f.w (image_set f.w f.h s.now) (image_set f.w f.h (drop q s.now)) 0 (f.w * f.h)))
         out.old out.new at result }
 {
-    if raster::same_rows(s, 0, q, h * r) {
+    if raster::same_rows(s, 0, q, f.h * f.r) {
         return at;
     }
-    let pen = walk_blocks(down, w, h, r, q, s, at, run, out);
-    pen.at
+    let pen = Pen { at, run };
+    walk_blocks(down, f, q, s, pen, out).at
 }

@@ -7,7 +7,7 @@ ghost use Rattle.sections.specs.Pens.{Marked, PenRoom, PenWalked};
 ghost use Rattle.sections.specs.Words.{Dense, word_kinds};
 
 // Where a pen stands in a stream of symbols, and the pixels counted since the last point.
-#[derive(Drop)]
+#[derive(Clone, Copy)]
 pub struct Pen {
     pub at: usize,
     pub run: u32,
@@ -29,16 +29,13 @@ fn empty_runs(down: bool, at: usize, n: u32, out: &mut [u8]) -> usize
     requires { PenRoom down out.old at (replicate n 0) }
     ensures { Marked down (replicate n 0) out.old out.new at result }
 {
-    let end = at + 2 * (n as usize);
-    if !down {
-        return end;
+    let n = n as usize;
+    if down {
+        for k in 0..n {
+            coding::put(out, at + 2 * k, 1);
+        }
     }
-    let mut j = at;
-    while j < end {
-        coding::put(out, j, 1);
-        j = j + 2;
-    }
-    end
+    at + 2 * n
 }
 
 // How many pixels are free from height `top` down to the point at height h. Most often all of them are.
@@ -67,39 +64,31 @@ fn leading_points(left: u64, h: u32) -> u32
 }
 
 // The runs that end in the m pixels of a word of foreground and a word of mask.
-pub fn walk_word(
-    down: bool,
-    m: u32,
-    ink: u64,
-    mask: u64,
-    at: usize,
-    run: u32,
-    out: &mut [u8],
-) -> Pen
-    requires { (0 < m) × (m ≤ 64) × (ink < 2 ^ m) × (mask < 2 ^ m) × (run < 2 ^ 24) × PenRoom down out.old at (runs_of run (word_kinds m ink mask)) }
-    ensures { PenWalked down (word_kinds m ink mask) out.old out.new at run result.at result.run }
+pub fn walk_word(down: bool, m: u32, ink: u64, mask: u64, pen: Pen, out: &mut [u8]) -> Pen
+    requires { (0 < m) × (m ≤ 64) × (ink < 2 ^ m) × (mask < 2 ^ m) × (pen.run < 2 ^ 24) × PenRoom down out.old pen.at (runs_of pen.run (word_kinds m ink mask)) }
+    ensures { PenWalked down (word_kinds m ink mask) out.old out.new pen.at pen.run result.at result.run }
 {
     let either = ink | mask;
     let mut left = either ^ mask;
     let mut rest = (u64::MAX >> (64 - m)) ^ either;
     let mut top = m;
-    let mut j = at;
-    let mut k = run;
+    let mut j = pen.at;
+    let mut k = pen.run;
     while left != 0 {
         let h = 63 - u64::leading_zeros(left);
         j = end_run(down, j, k + count_free(rest, h, top), out);
         k = 0;
         let bit = 1u64 << h;
-        left = left % bit;
-        rest = rest % bit;
+        left %= bit;
+        rest %= bit;
         top = h;
         let n = leading_points(left, h);
         if n != 0 {
             j = empty_runs(down, j, n, out);
             top = h - n;
             let low = 1u64 << top;
-            left = left % low;
-            rest = rest % low;
+            left %= low;
+            rest %= low;
         }
     }
     Pen {
@@ -123,14 +112,14 @@ pub fn is_dense(down: bool, ink: u64, mask: u64) -> bool
 }
 
 // The runs that end in a dense word under no mask, measured: each but the first has one digit.
-pub fn measure_dense(at: usize, run: u32, ink: u64) -> Pen
-    requires { Dense 64 ink × (run < 2 ^ 24) × (at + length (runs_symbols (runs_of run (word_kinds 64 ink 0))) < 2 ^ 40) }
-    ensures { (result.at ≡ at + length (runs_symbols (runs_of run (word_kinds 64 ink 0)))) × (result.run ≡ count_after run (word_kinds 64 ink 0)) }
+pub fn measure_dense(pen: Pen, ink: u64) -> Pen
+    requires { Dense 64 ink × (pen.run < 2 ^ 24) × (pen.at + length (runs_symbols (runs_of pen.run (word_kinds 64 ink 0))) < 2 ^ 40) }
+    ensures { (result.at ≡ pen.at + length (runs_symbols (runs_of pen.run (word_kinds 64 ink 0)))) × (result.run ≡ count_after pen.run (word_kinds 64 ink 0)) }
 {
-    let first = coding::digits(run + u64::leading_zeros(ink));
+    let first = coding::digits(pen.run + u64::leading_zeros(ink));
     let rest = 2 * u64::count_ones(ink) - 1;
     Pen {
-        at: at + ((first + rest) as usize),
+        at: pen.at + ((first + rest) as usize),
         run: u64::trailing_zeros(ink),
     }
 }

@@ -3,11 +3,11 @@ use mathlib.Core.Bool.{Bool, cond, false, not, true, xor}
 use mathlib.Core.List.{List, ◌++◌, ◌∷◌, map, map-append}
 use mathlib.Core.Path.{◌∙◌, ◌≡◌, ap, ap₂, refl, subst, sym}
 use Prim.Native.Nat.{◌%◌, ◌+◌, ◌-◌, ◌/◌, ◌<◌, ◌^◌, ◌≤◌, suc, zero, ℕ}
-use native.Mathlib.Nat.{div-eq_of_lt, le_of_suc-le-suc, lt_of_le_of_lt, mod-eq_of_lt, mod-le, mod-lt, mod-one, not-suc-le-zero, zero-lt-suc}
+use native.Mathlib.Nat.{div-eq_of_lt, le_of_suc-le-suc, mod-eq_of_lt, mod-lt, mod-one, not-suc-le-zero, zero-lt-suc}
 use native.Mathlib.Numerals.{add-one}
 use native.Mathlib.Omega.{arith}
 use lib.Bits.{bit_xor}
-use lib.Count.{count_leading_zeros, ones, ones_cat}
+use lib.Count.{ones, ones_cat}
 use lib.Dec.{T, eqb}
 use lib.ListN.{length, length-map}
 use lib.Pow.{field, mod-mod-pow, pow_pos, shr_lt, shr-shr, split}
@@ -16,7 +16,7 @@ use Rattle.morphology.specs.Lists.{count_of}
 use Rattle.morphology.proofs.BitLaws.{bit-xor}
 use Rattle.morphology.proofs.TestLaws.{T_ext}
 use Rattle.reading.proofs.SeekLaws.{free_of}
-use Rattle.sections.proofs.WordLaws.{Top, bit_low, bit-ones, ones_digit, ones-top, power, power_is, top_below, top_one, top-point}
+use Rattle.sections.proofs.WordLaws.{Top, bit_low, bit-ones, ones_digit, ones-top, power, power_is, top_below, top_one}
 use Rattle.seeking.specs.Words.{barred, word_bits}
 use Rattle.seeking.proofs.OnwardLaws.{length_word-bits, word-bits_agree, word-bits_parts}
 
@@ -113,7 +113,6 @@ pub record Picking (free k rest above : ℕ) : Type 0 where
   pub low : rest ≡ free % 2 ^ height
   pub passed : ones (free / 2 ^ height) + above ≡ k
   pub some : above < ones rest
-  pub small : rest < 2 ^ 64
 
 -- at first none is above
 pub picking-none : (free k : ℕ) → free < 2 ^ 64 → k < ones free → Picking free k free k
@@ -122,13 +121,12 @@ picking-none free k h l = record {
   low = sym (mod-eq_of_lt h);
   passed = omega (arith, ap ones (div-eq_of_lt h), ones_digit 0 (omega arith));
   some = l;
-  small = h;
 }
 
 module _ {free k rest above : ℕ} (p : Picking free k rest above) where
-  -- the highest of `rest`
-  pub picking-top : (count_leading_zeros 64 rest ≤ 63) × Top rest (63 - count_leading_zeros 64 rest)
-  picking-top = top-point rest (by rest p.some) p.small
+  -- some are left
+  pub picking-some : 0 < rest
+  picking-some = by rest p.some
     where
       by : (n : ℕ) → above < ones n → 0 < n
       by zero h = absurd (omega (arith, ones_digit 0 (omega arith)))
@@ -144,8 +142,8 @@ module _ {free k rest above : ℕ} (p : Picking free k rest above) where
         ones-between free p.height i l ∙ ap (λ (x : ℕ). ones (free / 2 ^ p.height) + ones x) (ap (λ (x : ℕ). x / 2 ^ i) (sym p.low) ∙ e)
 
     -- below it, where it is not the one sought
-    pub picking_next : 0 < above → Picking free k (rest % power h) (above - 1)
-    picking_next q =
+    pub picking_next : (left : ℕ) → above ≡ suc left → Picking free k (rest % power h) left
+    picking_next left q =
         let one = top_one rest h t in
         let f : p.height ≡ (p.height - h) + h = omega (arith, lower) in
         let e : rest % 2 ^ h ≡ free % 2 ^ h =
@@ -153,12 +151,11 @@ module _ {free k rest above : ℕ} (p : Picking free k rest above) where
         let g : ones rest ≡ 1 + ones (rest % 2 ^ h) =
         ap ones (sym (split rest h)) ∙ ones_cat h (rest / 2 ^ h) (rest % 2 ^ h) (mod-lt rest (pow_pos h))
         ∙ ap (λ (x : ℕ). x + ones (rest % 2 ^ h)) (ap ones one ∙ ones_digit 1 (omega arith)) in
-        subst (λ (x : ℕ). Picking free k (rest % x) (above - 1)) (sym (power_is h t.0)) (record {
+        subst (λ (x : ℕ). Picking free k (rest % x) left) (sym (power_is h t.0)) (record {
           height = h;
           low = e;
           passed = omega (arith, above_is h 1 (omega (arith, lower)) one, ones_digit 1 (omega arith), p.passed);
           some = omega (arith, g, p.some);
-          small = lt_of_le_of_lt (mod-le rest (2 ^ h)) p.small;
         })
 
     -- where it is

@@ -10,16 +10,17 @@ use lib.Count.{ones, ones-le}
 use lib.Dec.{T, eqb}
 use lib.ListN.{drop, length}
 use lib.Pow.{ones_lt, pow-lt, pow_mono, shr_lt}
+use Rattle.std.specs.Prelude.{None, Option, Some}
 use Rattle.morphology.specs.Element.{bit}
 use Rattle.reading.specs.Nexts.{Nearby, next_of}
 use Rattle.reading.specs.Seeking.{next_run, seek}
 use Rattle.reading.specs.declared.Next.{Next}
-use Rattle.reading.specs.declared.Next.TheVariants.{Ended, Lost, Run}
+use Rattle.reading.specs.declared.Next.TheVariants.{Ended, Run}
 use Rattle.reading.proofs.SeekLaws.{free_of, next-below}
 use Rattle.sections.proofs.WordLaws.{low_lt, power, power_is}
 use Rattle.seeking.specs.Words.{Advanced, Onward, WordSought, barred, word_bits}
 use Rattle.seeking.proofs.BarLaws.{barred-at, barred_low, barred-mask, free-barred, length-barred}
-use Rattle.seeking.proofs.OnwardLaws.{onward-ended, onward-lost, onward-none, onward_on, onward-point, onward-skipped}
+use Rattle.seeking.proofs.OnwardLaws.{Over, onward-none, onward_on, onward-over, onward-point, onward-skipped}
 
 -- the pixels above some height are walked; the free ones below it are in `free`
 pub record MaskWalk (s : List ℕ) (limit m mask left at points free k j : ℕ) : Type 0 where
@@ -54,18 +55,18 @@ bit_below : (n v h : ℕ) → v < 2 ^ n → T (bit v h) → h < n
 bit_below n v h l b = lt_of_not-le (λ (g : n ≤ h). not-le_of_lt (lt_of_lt_of_le l (pow_mono g)) (bit_le v h b))
 
 -- a walk over the whole word: its points, and what follows it
-abbrev pub MaskWalked : List ℕ → ℕ → ℕ → ℕ → ℕ → ℕ → ℕ → Next → Type 0
+abbrev pub MaskWalked : List ℕ → ℕ → ℕ → ℕ → ℕ → ℕ → ℕ → Option Next → Type 0
 MaskWalked s limit m mask left at points next =
     WordSought s limit m (word_bits m mask) (seek left (drop at s)) points next × Advanced limit m left at next
 
 module _ {s : List ℕ} {limit m mask left at points free k j : ℕ} (w : MaskWalk s limit m mask left at points free k j) where
   -- it ends where no more free pixels are left than the run has
-  pub masked-end : (count : ℕ) → count ≡ ones free → count ≤ k → MaskWalked s limit m mask left at points (Run (k - count) j)
+  pub masked-end : (count : ℕ) → count ≡ ones free → count ≤ k → MaskWalked s limit m mask left at points (Some (Run (k - count) j))
   masked-end count e l =
       let f : free_of (barred w.top free) ≡ count = free-barred w.top free w.fits ∙ sym e in
       let few = ones-le w.top free w.fits in
       let fits : count ≤ w.top = omega arith in (
-        subst (λ (x : ℕ). WordSought s limit m (word_bits m mask) (seek left (drop at s)) points (Run (k - x) j)) f
+        subst (λ (x : ℕ). WordSought s limit m (word_bits m mask) (seek left (drop at s)) points (Some (Run (k - x) j))) f
             (onward-skipped s k j w.onward refl (length-barred w.top free) (omega arith)),
         (omega (arith, w.moved, w.short), omega (arith, w.below)),
       )
@@ -107,17 +108,18 @@ module _ {s : List ℕ} {limit m mask left at points free k j : ℕ} (w : MaskWa
         subst (λ (x : ℕ). Onward limit m (word_bits m mask) (seek left (drop at s)) (points + x) h (barred h (free % x)) n) (sym (power_is h p.0))
         (onward_on w.onward (subst (λ (l : List Bool). Onward limit w.top (barred w.top free) here (2 ^ h) h l n) (sym (barred_low h free)) two))
 
-    -- where the symbols cannot be read
-    pub masked-lost : next_of s Lost ≡ next_run limit (drop j s) → MaskWalked s limit m mask left at (points + power h) Lost
-    masked-lost e = (onward-lost s past (sym e) (length-barred h (free % power h)), tt)
-
-    -- where the size ends
-    pub masked-ended : (next : ℕ) → next_of s (Ended next) ≡ next_run limit (drop j s) → Nearby j (Ended next)
-        → MaskWalked s limit m mask left at (points + power h) (Ended next)
-    masked-ended next e n = (onward-ended s next past e (length-barred h (free % power h)), omega (arith, w.moved, w.short, above))
+    -- where the size ends, or the symbols cannot be read
+    pub masked-over : (next : Option Next) → Over next → next_of s next ≡ next_run limit (drop j s) → Nearby j next
+        → MaskWalked s limit m mask left at (points + power h) next
+    masked-over next o e n = (onward-over s next o past e (length-barred h (free % power h)), near next o n)
+      where
+        near : (next : Option Next) → Over next → Nearby j next → Advanced limit m left at next
+        near None o n = tt
+        near (Some (Ended end)) o n = omega (arith, w.moved, w.short, above)
+        near (Some (Run left at)) o n = absurd o
 
     -- where a run follows
-    pub masked-run : (left' next : ℕ) → next_of s (Run left' next) ≡ next_run limit (drop j s) → Nearby j (Run left' next)
+    pub masked-run : (left' next : ℕ) → next_of s (Some (Run left' next)) ≡ next_run limit (drop j s) → Nearby j (Some (Run left' next))
         → MaskWalk s limit m mask left at (points + power h) (free % power h) left' next
     masked-run left' next e n = record {
       top = h;

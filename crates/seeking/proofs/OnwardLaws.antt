@@ -8,12 +8,13 @@ use native.Mathlib.Omega.{arith}
 use lib.Dec.{eqb}
 use lib.ListN.{drop, length, length-replicate, replicate, replicate-append-replicate}
 use lib.Pow.{high, low, pow_mono, pow_pos}
+use Rattle.std.specs.Prelude.{None, Option, Some}
 use Rattle.morphology.specs.Element.{bit}
 use Rattle.morphology.specs.Lists.{count_of}
 use Rattle.reading.specs.Nexts.{next_of}
-use Rattle.reading.specs.Seeking.{Seek, lost, next_run, seek, sought_all, sought_points}
+use Rattle.reading.specs.Seeking.{Seek, next_run, seek, sought_all, sought_points}
 use Rattle.reading.specs.declared.Next.{Next}
-use Rattle.reading.specs.declared.Next.TheVariants.{Ended, Lost, Run}
+use Rattle.reading.specs.declared.Next.TheVariants.{Ended, Run}
 use Rattle.reading.proofs.SeekLaws.{ended_all, free_of, lost_all, point_at, skip_all}
 use Rattle.sections.proofs.WordLaws.{bit_high, bit_low, bit-zero}
 use Rattle.seeking.specs.Words.{Onward, WordSought, word_bits}
@@ -120,7 +121,7 @@ onward_open limit n k s h =
 -- ---- the end of a walk
 
 -- where no point is in what is left
-pub onward-end : {limit n : ℕ} {l : List Bool} {t : Seek} {v n' : ℕ} {l' : List Bool} {t' : Seek} (s : List ℕ) (next : Next)
+pub onward-end : {limit n : ℕ} {l : List Bool} {t : Seek} {v n' : ℕ} {l' : List Bool} {t' : Seek} (s : List ℕ) (next : Option Next)
     → Onward limit n l t v n' l' t' → sought_points limit l' t' ≡ replicate n' false → next_of s next ≡ sought_all limit l' t' → WordSought s limit n l t v next
 onward-end {limit} {n} {l} {t} {v} {n'} {l'} {t'} s next o p e = record {
   small = omega (arith, o.room, pow_pos n');
@@ -128,25 +129,31 @@ onward-end {limit} {n} {l} {t} {v} {n'} {l'} {t'} s next o p e = record {
   stands = e ∙ sym o.stands;
 }
 
--- since the size has ended
-pub onward-ended : {limit n : ℕ} {l : List Bool} {t : Seek} {v n' : ℕ} {l' : List Bool} {t' : Seek} (s : List ℕ) (e : ℕ)
-    → Onward limit n l t v n' l' t' → next_of s (Ended e) ≡ t' → length l' ≡ n' → WordSought s limit n l t v (Ended e)
-onward-ended {limit} {n} {l} {t} {v} {n'} {l'} {t'} s e o h g =
-    let r = ended_all limit l' (drop e s) in
-    onward-end s (Ended e) o (ap (sought_points limit l') (sym h) ∙ r.1 ∙ ap (λ (x : ℕ). replicate x false) g)
-    (sym (ap (sought_all limit l') (sym h) ∙ r.0))
+-- no run follows
+abbrev pub Over : Option Next → Type 0
+Over None = Unit {0}
+Over (Some (Ended end)) = Unit {0}
+Over (Some (Run left at)) = ⊥
 
--- since the symbols cannot be read
-pub onward-lost : {limit n : ℕ} {l : List Bool} {t : Seek} {v n' : ℕ} {l' : List Bool} {t' : Seek} (s : List ℕ)
-    → Onward limit n l t v n' l' t' → t' ≡ lost → length l' ≡ n' → WordSought s limit n l t v Lost
-onward-lost {limit} {n} {l} {t} {v} {n'} {l'} {t'} s o h g =
-    let r = lost_all limit l' in
-    onward-end s Lost o (ap (sought_points limit l') h ∙ r.1 ∙ ap (λ (x : ℕ). replicate x false) g) (sym (ap (sought_all limit l') h ∙ r.0))
+-- so there is no point, and no run follows later
+over_rest : (limit : ℕ) (l : List Bool) (s : List ℕ) (next : Option Next) → Over next
+    → (sought_points limit l (next_of s next) ≡ replicate (length l) false) × (next_of s next ≡ sought_all limit l (next_of s next))
+over_rest limit l s None o = let r = lost_all limit l in (r.1, sym r.0)
+over_rest limit l s (Some (Ended end)) o = let r = ended_all limit l (drop end s) in (r.1, sym r.0)
+over_rest limit l s (Some (Run left at)) o = absurd o
+
+-- since the size has ended, or the symbols cannot be read
+pub onward-over : {limit n : ℕ} {l : List Bool} {t : Seek} {v n' : ℕ} {l' : List Bool} {t' : Seek} (s : List ℕ) (next : Option Next) → Over next
+    → Onward limit n l t v n' l' t' → next_of s next ≡ t' → length l' ≡ n' → WordSought s limit n l t v next
+onward-over {limit} {n} {l} {t} {v} {n'} {l'} {t'} s next o w h g =
+    let r = over_rest limit l' s next o in
+    onward-end s next w (ap (sought_points limit l') (sym h) ∙ r.0 ∙ ap (λ (x : ℕ). replicate x false) g) (r.1 ∙ ap (sought_all limit l') h)
 
 -- since the run goes on
 pub onward-skipped : {limit n : ℕ} {l : List Bool} {t : Seek} {v n' : ℕ} {l' : List Bool} {t' : Seek} (s : List ℕ) (k j : ℕ)
-    → Onward limit n l t v n' l' t' → t' ≡ seek k (drop j s) → length l' ≡ n' → free_of l' ≤ k → WordSought s limit n l t v (Run (k - free_of l') j)
+    → Onward limit n l t v n' l' t' → t' ≡ seek k (drop j s) → length l' ≡ n' → free_of l' ≤ k
+    → WordSought s limit n l t v (Some (Run (k - free_of l') j))
 onward-skipped {limit} {n} {l} {t} {v} {n'} {l'} {t'} s k j o h g f =
     let r = skip_all limit k l' (drop j s) f in
-    onward-end s (Run (k - free_of l') j) o (ap (sought_points limit l') h ∙ r.1 ∙ ap (λ (x : ℕ). replicate x false) g)
+    onward-end s (Some (Run (k - free_of l') j)) o (ap (sought_points limit l') h ∙ r.1 ∙ ap (λ (x : ℕ). replicate x false) g)
     (sym (ap (sought_all limit l') h ∙ r.0))

@@ -6,14 +6,15 @@ use Prim.Native.Nat.{◌*◌, ◌+◌, ◌-◌, ◌<◌, ◌^◌, ◌≤◌, ℕ
 use native.Mathlib.Omega.{arith}
 use lib.ListN.{drop, length-replicate, replicate}
 use lib.Pow.{pow_mono, pow_pos}
+use Rattle.std.specs.Prelude.{None, Option, Some}
 use Rattle.reading.specs.Nexts.{Nearby, next_of}
 use Rattle.reading.specs.Seeking.{next_run, seek}
 use Rattle.reading.specs.declared.Next.{Next}
-use Rattle.reading.specs.declared.Next.TheVariants.{Ended, Lost, Run}
+use Rattle.reading.specs.declared.Next.TheVariants.{Ended, Run}
 use Rattle.reading.proofs.SeekLaws.{next-below}
 use Rattle.seeking.specs.Words.{Advanced, Onward, WordSought, word_bits}
 use Rattle.seeking.proofs.MaskedLaws.{MaskWalked}
-use Rattle.seeking.proofs.OnwardLaws.{free_open, onward-ended, onward-lost, onward-none, onward_on, onward_open, onward-skipped, word-bits-zero}
+use Rattle.seeking.proofs.OnwardLaws.{Over, free_open, onward-none, onward_on, onward_open, onward-over, onward-skipped, word-bits-zero}
 
 -- a walk over m pixels from the stand of `place_open` has come to symbol j and to the last `top` pixels; v has its points
 pub record OpenWalk (s : List ℕ) (limit m left at v top j : ℕ) : Type 0 where
@@ -22,11 +23,11 @@ pub record OpenWalk (s : List ℕ) (limit m left at v top j : ℕ) : Type 0 wher
   pub less : top < m
 
 -- what follows at symbol j, as `next_run` says it
-abbrev pub Follows : List ℕ → ℕ → ℕ → Next → Type 0
+abbrev pub Follows : List ℕ → ℕ → ℕ → Option Next → Type 0
 Follows s limit j next = (next_of s next ≡ next_run limit (drop j s)) × Nearby j next
 
 -- how the walk ends
-abbrev pub OpenWalked : List ℕ → ℕ → ℕ → ℕ → ℕ → ℕ → Next → Type 0
+abbrev pub OpenWalked : List ℕ → ℕ → ℕ → ℕ → ℕ → ℕ → Option Next → Type 0
 OpenWalked s limit m left at v next = WordSought s limit m (replicate m false) (seek left (drop at s)) v next × Advanced limit m left at next
 
 -- at the first point
@@ -44,20 +45,21 @@ module _ {s : List ℕ} {limit m left at v top j : ℕ} (w : OpenWalk s limit m 
       → j' + 2 * top' ≤ j + 2 * top → top' ≤ top → OpenWalk s limit m left at (v + v') top' j'
   open-short v' top' j' o n l = record { walk = onward_on w.walk o; near = omega (arith, w.near, w.less); less = omega (arith, w.less) }
 
-  -- the symbols cannot be read
-  pub open-lost : Follows s limit j Lost → OpenWalked s limit m left at v Lost
-  open-lost f = (onward-lost s w.walk (sym f.0) (length-replicate top false), tt)
+  -- the size ends, or the symbols cannot be read
+  pub open-over : (next : Option Next) → Over next → Follows s limit j next → OpenWalked s limit m left at v next
+  open-over next o f = (onward-over s next o w.walk f.0 (length-replicate top false), near next o f.1)
+    where
+      near : (next : Option Next) → Over next → Nearby j next → Advanced limit m left at next
+      near None o n = tt
+      near (Some (Ended end)) o n = omega (arith, w.near, w.less)
+      near (Some (Run left at)) o n = absurd o
 
-  -- the size ends
-  pub open-ended : (e : ℕ) → Follows s limit j (Ended e) → OpenWalked s limit m left at v (Ended e)
-  open-ended e f = (onward-ended s e w.walk f.0 (length-replicate top false), omega (arith, w.near, w.less, f.1))
-
-  module _ (k i : ℕ) (f : Follows s limit j (Run k i)) where
+  module _ (k i : ℕ) (f : Follows s limit j (Some (Run k i))) where
     -- a run goes on past the word
-    pub open-skipped : top ≤ k → OpenWalked s limit m left at v (Run (k - top) i)
+    pub open-skipped : top ≤ k → OpenWalked s limit m left at v (Some (Run (k - top) i))
     open-skipped h =
         let e = free_open top in (
-          subst (λ (n : ℕ). WordSought s limit m (replicate m false) (seek left (drop at s)) v (Run (k - n) i)) e
+          subst (λ (n : ℕ). WordSought s limit m (replicate m false) (seek left (drop at s)) v (Some (Run (k - n) i))) e
               (onward-skipped s k i w.walk (sym f.0) (length-replicate top false) (omega arith)),
           (omega (arith, w.near, w.less, f.1), omega (arith, next-below limit k (drop j s) (drop i s) f.0)),
         )
@@ -71,16 +73,16 @@ module _ {s : List ℕ} {limit m left at v top j : ℕ} (w : OpenWalk s limit m 
     }
 
 -- a run that goes past all pixels
-pub open_none : (s : List ℕ) (limit m left at : ℕ) → m ≤ left → left < limit → OpenWalked s limit m left at 0 (Run (left - m) at)
+pub open_none : (s : List ℕ) (limit m left at : ℕ) → m ≤ left → left < limit → OpenWalked s limit m left at 0 (Some (Run (left - m) at))
 open_none s limit m left at h l =
     let e = free_open m in (
-      subst (λ (n : ℕ). WordSought s limit m (replicate m false) (seek left (drop at s)) 0 (Run (left - n) at)) e
+      subst (λ (n : ℕ). WordSought s limit m (replicate m false) (seek left (drop at s)) 0 (Some (Run (left - n) at))) e
           (onward-skipped s left at (onward-none limit m (replicate m false) (seek left (drop at s))) refl (length-replicate m false) (omega arith)),
       (omega arith, omega arith),
     )
 
 -- no mask is a mask of 0
-pub open_word : (s : List ℕ) (limit m mask left at v : ℕ) (next : Next) → mask ≡ 0 → OpenWalked s limit m left at v next
+pub open_word : (s : List ℕ) (limit m mask left at v : ℕ) (next : Option Next) → mask ≡ 0 → OpenWalked s limit m left at v next
     → MaskWalked s limit m mask left at v next
 open_word s limit m mask left at v next e w =
     (subst (λ (l : List Bool). WordSought s limit m l (seek left (drop at s)) v next) (sym (ap (word_bits m) e ∙ word-bits-zero m)) w.0, w.1)

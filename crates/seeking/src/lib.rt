@@ -10,11 +10,11 @@ ghost use Rattle.seeking.specs.Words.{Advanced, Onward, WordSought, word_bits};
 
 use reading::Next;
 
-// The points of a word, and what follows in the stream.
-#[derive(Drop)]
+// The points of a word, and what follows in the stream, if it can be read.
+#[derive(Clone, Copy)]
 pub struct Placed {
     pub points: u64,
-    pub next: Next,
+    pub next: Option<Next>,
 }
 
 // The height of the free pixel that k others are above.
@@ -23,12 +23,10 @@ fn pick(free: u64, k: u32) -> u32
     ensures { (result < 64) × T (bit free result) × (ones (free / 2 ^ (result + 1)) ≡ k) }
 {
     let mut rest = free;
-    let mut above = k;
-    while above > 0 {
-        rest = rest % (1u64 << (63 - u64::leading_zeros(rest)));
-        above = above - 1;
+    for _ in 0..k {
+        rest %= 1u64 << rest.ilog2();
     }
-    63 - u64::leading_zeros(rest)
+    rest.ilog2()
 }
 
 // The points in the m pixels of a word, of which a mask covers some.
@@ -38,41 +36,34 @@ fn place_masked(stream: &[u8], limit: u32, m: u32, mask: u64, left: u32, at: usi
         result.points result.next × Advanced limit m left at result.next }
 {
     let mut free = (u64::MAX >> (64 - m)) ^ mask;
-    let mut count = u64::count_ones(free);
+    let mut count = free.count_ones();
     let mut points: u64 = 0;
     let mut k = left;
     let mut j = at;
     while k < count {
         let bit = 1u64 << pick(free, k);
-        points = points + bit;
-        free = free % bit;
-        count = u64::count_ones(free);
-        match reading::next_run(stream, j, limit) {
-            Next::Lost => return Placed {
-                points,
-                next: Next::Lost,
-            },
-            Next::Ended(end) => return Placed {
-                points,
-                next: Next::Ended(end),
-            },
-            Next::Run { left, at } => {
-                k = left;
-                j = at;
-            }
-        }
+        points += bit;
+        free %= bit;
+        count = free.count_ones();
+        let next = reading::next_run(stream, j, limit);
+        let Some(follows) = next else {
+            return Placed { points, next };
+        };
+        let Next::Run { left, at } = follows else {
+            return Placed { points, next };
+        };
+        k = left;
+        j = at;
     }
+    let left = k - count;
     Placed {
         points,
-        next: Next::Run {
-            left: k - count,
-            at: j,
-        },
+        next: Some(Next::Run { left, at: j }),
     }
 }
 
-// Points of runs of one or two digits, from symbol `at` on: `top` pixels are left to them, and then fewer.
-#[derive(Drop)]
+// Points of runs of one or two digits, up to symbol `at`, and the pixels left below them.
+#[derive(Clone, Copy)]
 struct Short {
     points: u64,
     top: u32,
@@ -92,50 +83,31 @@ fn short_runs(stream: &[u8], at: usize, top: u32) -> Short
     let mut rest = top;
     let mut j = at;
     if at / 4 + 8 <= stream.len() {
-        let mut window = sections::load_few(stream, at / 4, 8) << ((2 * (at % 4)) as u32);
+        let mut window = sections::load_few(stream, at / 4, 8) << (2 * (at % 4));
         let end = at + 27;
         while j < end {
             let three = (window >> 58) as u32;
             let first = three / 16;
             let mut pixels = first;
-            let mut symbols: u32 = 2;
+            let mut symbols = 2;
             if three / 4 % 4 != 0 {
                 if three % 4 != 0 {
-                    return Short {
-                        points,
-                        top: rest,
-                        at: j,
-                    };
+                    break;
                 }
                 let leads = first < 2;
                 if leads {
-                    return Short {
-                        points,
-                        top: rest,
-                        at: j,
-                    };
+                    break;
                 }
                 pixels = 3 * first + three / 4 % 4 - 3;
                 symbols = 3;
             }
-            if first == 0 {
-                return Short {
-                    points,
-                    top: rest,
-                    at: j,
-                };
+            if first == 0 || pixels > rest {
+                break;
             }
-            if pixels > rest {
-                return Short {
-                    points,
-                    top: rest,
-                    at: j,
-                };
-            }
-            rest = rest - pixels;
-            points = points + (1u64 << rest);
-            window = window << (2 * symbols);
-            j = j + symbols as usize;
+            rest -= pixels;
+            points += 1u64 << rest;
+            window <<= 2 * symbols;
+            j += symbols;
         }
     }
     Short {
@@ -156,31 +128,24 @@ fn place_open(stream: &[u8], limit: u32, m: u32, left: u32, at: usize) -> Placed
     let mut j = at;
     loop {
         let short = short_runs(stream, j, top);
-        points = points + short.points;
-        match reading::next_run(stream, short.at, limit) {
-            Next::Lost => return Placed {
+        points += short.points;
+        let next = reading::next_run(stream, short.at, limit);
+        let Some(follows) = next else {
+            return Placed { points, next };
+        };
+        let Next::Run { left, at } = follows else {
+            return Placed { points, next };
+        };
+        if left >= short.top {
+            let left = left - short.top;
+            return Placed {
                 points,
-                next: Next::Lost,
-            },
-            Next::Ended(end) => return Placed {
-                points,
-                next: Next::Ended(end),
-            },
-            Next::Run { left, at } => {
-                if left >= short.top {
-                    return Placed {
-                        points,
-                        next: Next::Run {
-                            left: left - short.top,
-                            at,
-                        },
-                    };
-                }
-                top = short.top - left - 1;
-                points = points + (1u64 << top);
-                j = at;
-            }
+                next: Some(Next::Run { left, at }),
+            };
         }
+        top = short.top - left - 1;
+        points += 1u64 << top;
+        j = at;
     }
 }
 
@@ -194,9 +159,10 @@ pub fn place_word(stream: &[u8], limit: u32, m: u32, mask: u64, left: u32, at: u
         return place_masked(stream, limit, m, mask, left, at);
     }
     if m <= left {
+        let left = left - m;
         return Placed {
             points: 0,
-            next: Next::Run { left: left - m, at },
+            next: Some(Next::Run { left, at }),
         };
     }
     place_open(stream, limit, m, left, at)

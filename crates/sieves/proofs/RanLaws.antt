@@ -6,6 +6,9 @@ use Prim.Native.Nat.{suc, zero, ℕ}
 use native.Mathlib.Nat.{suc-ne-zero}
 use borrow.Author.Tests.{ne_eqb}
 use lib.Dec.{T, eqb}
+use Rattle.std.specs.Prelude.{None, Option, Result, Some}
+use Rattle.std.specs.Result.{IsErrAnd}
+use Rattle.std.proofs.lemmas.Result.{err_from_is_err_and}
 use Rattle.claims.specs.Sieves.{accepted, is_refused, largest_cut, rebuilt, sieve_all, sieve_refused, sieved, taken_apart}
 use Rattle.claims.specs.Claims.{Sieved}
 use Rattle.claims.proofs.Claims.{refuses_exactly, sieve_list}
@@ -13,6 +16,11 @@ use Rattle.morphology.specs.Answers.{Answer, Outcome, outcome, output, refused}
 use Rattle.morphology.specs.Operations.{decomposed, reconstructed}
 use Rattle.morphology.specs.Refusals.{unless}
 use Rattle.morphology.proofs.RefusalLaws.{unless_in, unless-refused}
+use Rattle.refusals.specs.Refusal.{answer_of, number_of}
+use Rattle.refusals.specs.declared.Refusal.{Refusal}
+use Rattle.refusals.proofs.RowLaws.{number_ne-zero}
+use Rattle.skeleton.specs.Decomposed.{found}
+use Rattle.skeleton.specs.declared.Skeleton.{Skeleton}
 use Rattle.sieves.specs.Ran.{ListRunsAsClaimed, Ran, RunningSieveList, RunsAsClaimed, handed, handed_all, run, run_all, sieve_outcome, work_of}
 
 -- ---- a refused call leaves its buffers
@@ -29,30 +37,36 @@ reconstructed-left W H e k labels image work f = ap (λ (o : Outcome). o.lent) (
 
 module _ (W H e k : ℕ) (image labels work : List ℕ) where
   -- the first call is refused
-  pub outcome-refused : (a : Answer) (labels' work' : List ℕ) (n : ℕ) → outcome a (labels' ∷ work' ∷ []) ≡ decomposed W H e image labels work → n ≡ a.refusal
-      → (n ≡ 0 → ⊥)
-      → outcome (refused n) (image ∷ labels' ∷ work' ∷ []) ≡ sieve_outcome W H e k image labels work
+  pub outcome_refused : (r : Result ℕ Refusal) (x : Refusal) (labels' work' : List ℕ) → IsErrAnd r (λ y. y ≡ x)
+      → outcome (refused (number_of x)) (labels' ∷ work' ∷ []) ≡ decomposed W H e image labels work
+      → outcome (answer_of r) (image ∷ labels' ∷ work' ∷ []) ≡ sieve_outcome W H e k image labels work
   unfolding sieve_outcome
-  outcome-refused a labels' work' n q r f =
+  outcome_refused r x labels' work' i q =
+      let p = err_from_is_err_and r i in
       let D = decomposed W H e image labels work in
-      let z : n ≡ D.answer.refusal = r ∙ ap (λ (o : Outcome). o.answer.refusal) q in
-      let g : D.answer.refusal ≡ 0 → ⊥ = λ y. f (z ∙ y) in
-      ap₂ (λ (i : ℕ) (l : List (List ℕ)). outcome (refused i) (image ∷ l)) z (ap (λ (o : Outcome). o.lent) q ∙ decomposed-left W H e image labels work g)
+      let z : number_of x ≡ D.answer.refusal = ap (λ (o : Outcome). o.answer.refusal) q in
+      let g : D.answer.refusal ≡ 0 → ⊥ = λ y. number_ne-zero x (z ∙ y) in
+      ap (λ (a : Result ℕ Refusal). outcome (answer_of a) (image ∷ labels' ∷ work' ∷ [])) p.1
+      ∙ ap (λ (y : Refusal). outcome (refused (number_of y)) (image ∷ labels' ∷ work' ∷ [])) p.2
+      ∙ ap₂ (λ (i : ℕ) (l : List (List ℕ)). outcome (refused i) (image ∷ l)) z (ap (λ (o : Outcome). o.lent) q ∙ decomposed-left W H e image labels work g)
       ∙ sym (unless-refused D.answer.refusal (image ∷ labels ∷ work ∷ []) _ g)
 
   -- it is not
-  pub outcome_both : (a b : Answer) (labels' work' left work'' : List ℕ) (n : ℕ) → outcome a (labels' ∷ work' ∷ []) ≡ decomposed W H e image labels work
-      → n ≡ a.refusal → n ≡ 0
+  pub outcome_both : (f : Option Skeleton) (b : Answer) (labels' work' left work'' : List ℕ) → outcome (found f) (labels' ∷ work' ∷ []) ≡ decomposed W H e image labels work
       → outcome b (left ∷ work'' ∷ []) ≡ reconstructed W H e k labels' image work'
       → outcome b (left ∷ labels' ∷ work'' ∷ []) ≡ sieve_outcome W H e k image labels work
   unfolding sieve_outcome
-  outcome_both a b labels' work' left work'' n q r z p =
+  outcome_both f b labels' work' left work'' q p =
       let D = decomposed W H e image labels work in
       let after : Outcome → Outcome → Outcome = λ first second. outcome second.answer (output second ∷ output first ∷ work_of second ∷ []) in
       ap (λ (o : Outcome). outcome o.answer (output o ∷ labels' ∷ work_of o ∷ [])) p
       ∙ ap (λ (o : Outcome). after o (reconstructed W H e k (output o) image (work_of o))) q
       ∙ sym (unless_in D.answer.refusal (image ∷ labels ∷ work ∷ []) (after D (reconstructed W H e k (output D) image (work_of D)))
-      (sym (ap (λ (o : Outcome). o.answer.refusal) q) ∙ sym r ∙ z))
+      (sym (ap (λ (o : Outcome). o.answer.refusal) q) ∙ unrefused f))
+    where
+      unrefused : (f : Option Skeleton) → (found f).refusal ≡ 0
+      unrefused None = refl
+      unrefused (Some s) = refl
 
 -- ---- the claims
 

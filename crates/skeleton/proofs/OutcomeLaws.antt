@@ -20,22 +20,22 @@ use Rattle.iteration.specs.Steps.{Wrote}
 use Rattle.decomposition.specs.Turns.{Finished}
 
 -- an image written
-pub writes_done : (rows : List Row) (W H : ℕ) (X : Point → Bool) (out work : List ℕ) (r n : ℕ) (out' work' : List ℕ) → r ≡ first_refusal rows → r ≡ 0 → Wrote W H X n out' work work'
+pub writes_done : (rows : List Row) (W H : ℕ) (X : Point → Bool) (out work : List ℕ) (n : ℕ) (out' work' : List ℕ) → 0 ≡ first_refusal rows → Wrote W H X n out' work work'
     → outcome (foreground n) (out' ∷ work' ∷ []) ≡ checked rows (out ∷ work ∷ []) (writes W H X work)
-writes_done rows W H X out work r n out' work' q z h =
+writes_done rows W H X out work n out' work' q h =
     ap (λ (k : ℕ). outcome (foreground k) (out' ∷ work' ∷ [])) h.answer
     ∙ ap₂ (λ (o w : List ℕ). outcome (foreground (area W H X)) (o ∷ w ∷ [])) h.image h.left
-    ∙ sym (unless_in (first_refusal rows) (out ∷ work ∷ []) (writes W H X work) (sym q ∙ z))
+    ∙ sym (unless_in (first_refusal rows) (out ∷ work ∷ []) (writes W H X work) (sym q))
 
 -- labels written, after the last turn
-pub finished-outcome : (W H e : ℕ) → T (is_element e) → (image labels₀ work labels work' : List ℕ) (r n found : ℕ) (a : Answer) → r ≡ first_refusal (decompose_rows W H e image labels₀ work) → r ≡ 0
+pub finished-outcome : (W H e : ℕ) → T (is_element e) → (image labels₀ work labels work' : List ℕ) (n found : ℕ) (a : Answer) → 0 ≡ first_refusal (decompose_rows W H e image labels₀ work)
     → Finished W H (offsets e) (image_set W H image) n labels found → work' ≡ cleared W H work → a ≡ turns_answer n found
     → outcome a (labels ∷ work' ∷ []) ≡ decomposed W H e image labels₀ work
 unfolding decomposed
-finished-outcome W H e el image labels₀ work labels work' r n found a q z f ew ea =
+finished-outcome W H e el image labels₀ work labels work' n found a q f ew ea =
     let X = image_set W H image in
     let B = offsets e in
-    sym (unless_in (first_refusal (decompose_rows W H e image labels₀ work)) (labels₀ ∷ work ∷ []) (labelled W H (skeleton_labels W H B X) work) (sym q ∙ z)
+    sym (unless_in (first_refusal (decompose_rows W H e image labels₀ work)) (labels₀ ∷ work ∷ []) (labelled W H (skeleton_labels W H B X) work) (sym q)
     ∙ turns-outcome W H B (element e el) X (image_on W H image) n work (λ k p g. let y = f.before k p in g y.0 y.1) f.gone
     ∙ ap₂ (λ (k : ℕ) (m : List ℕ). outcome (turns_answer n k) (m ∷ cleared W H work ∷ [])) (sym (f.points ∙ ap points_of f.below)) (sym f.below)
     ∙ ap₂ (λ (b : Answer) (m : List ℕ). outcome b (labels ∷ m ∷ [])) (sym ea) (sym ew))

@@ -17,17 +17,17 @@ use Rattle.iteration.proofs.StepLaws.{ready}
 use Rattle.reconstruction.specs.Gathered.{Kept}
 
 module _ (W H e : ℕ) where
-  pub fold_ready : (n : ℕ) (image out work : List ℕ) {r : ℕ} → r ≡ first_refusal (fold_rows W H e n image out work) → r ≡ 0
+  pub fold_ready : (n : ℕ) (image out work : List ℕ) → 0 ≡ first_refusal (fold_rows W H e n image out work)
       → Ready W H image out work × T (is_element e)
-  fold_ready n image out work q z =
-      let d = shaped W H e (not_plane W H image ∷ not_plane W H out ∷ short_work W H work ∷ []) (row4 W H image ∷ row7 n ∷ []) tt q z in
+  fold_ready n image out work q =
+      let d = shaped W H e (not_plane W H image ∷ not_plane W H out ∷ short_work W H work ∷ []) (row4 W H image ∷ row7 n ∷ []) tt q in
       let l = d.lengths in
       (ready W H image out work (sides-frame d.sides) l.0 l.1.0 l.1.1.0 d.rest.0, d.element)
 
-  pub decompose_ready : (image labels work : List ℕ) {r : ℕ} → r ≡ first_refusal (decompose_rows W H e image labels work) → r ≡ 0
+  pub decompose_ready : (image labels work : List ℕ) → 0 ≡ first_refusal (decompose_rows W H e image labels work)
       → Ready W H image image work × (W ≤ max_label) × (H ≤ max_label) × (length labels ≡ W * H) × T (is_element e)
-  decompose_ready image labels work q z =
-      let d = shaped W H e (not_plane W H image ∷ not_places W H labels ∷ short_work W H work ∷ []) (row4 W H image ∷ []) tt q z in
+  decompose_ready image labels work q =
+      let d = shaped W H e (not_plane W H image ∷ not_places W H labels ∷ short_work W H work ∷ []) (row4 W H image ∷ []) tt q in
       let l = d.lengths in (
         ready W H image image work (sides-frame d.sides) l.0 l.0 l.1.1.0 d.rest.0,
         side-label W d.sides.across,
@@ -36,10 +36,10 @@ module _ (W H e : ℕ) where
         d.element,
       )
 
-  pub kept_ready : (k : ℕ) (labels image work : List ℕ) {r : ℕ} → r ≡ first_refusal (reconstruct_rows W H e k labels image work) → r ≡ 0
+  pub kept_ready : (k : ℕ) (labels image work : List ℕ) → 0 ≡ first_refusal (reconstruct_rows W H e k labels image work)
       → Kept W H e labels image work
-  kept_ready k labels image work q z =
-      let d = shaped W H e (not_places W H labels ∷ not_plane W H image ∷ short_work W H work ∷ []) (row5 W H (offsets e) labels ∷ row7 k ∷ []) tt q z in
+  kept_ready k labels image work q =
+      let d = shaped W H e (not_places W H labels ∷ not_plane W H image ∷ short_work W H work ∷ []) (row5 W H (offsets e) labels ∷ row7 k ∷ []) tt q in
       let l = d.lengths in
       record {
         frame = sides-frame d.sides;

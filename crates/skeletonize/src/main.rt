@@ -2,13 +2,10 @@
 // Input past `listing::INPUT` bytes is not read: it changes nothing (`printed-enough` in listing/proofs/PrintedLaws.antt).
 #![tactic(auto)]
 
-use input::Input;
-
 fn main(rt: HostRuntime) {
     let mut bytes = [0u8; listing::INPUT];
     let mut out = [0u8; listing::OUTPUT];
-    let read = input::read_all(&mut rt.stdin(), &mut bytes);
-    let Input::Read(count) = read else {
+    let Ok(count) = input::read_all(&mut rt.stdin(), &mut bytes) else {
         return;
     };
     let n = listing::list(&bytes[..count], &mut out);

@@ -1,6 +1,6 @@
 -- What the table of refusals lets pass to hit-or-miss and thinning: the rows that do not hold are what their code asks for.
 use mathlib.Core.List.{List, [], ◌∷◌}
-use mathlib.Core.Path.{◌∙◌, ◌≡◌, subst, sym}
+use mathlib.Core.Path.{◌≡◌, subst, sym}
 use Prim.Native.Nat.{◌+◌, ◌/◌, ◌<◌, ◌^◌, ℕ}
 use lib.Dec.{T}
 use lib.ListN.{length}
@@ -25,9 +25,9 @@ pub record HitReady (W H fg bg : ℕ) (s o : List ℕ) : Type 0 where
   pub clean : T (is_clean W H s)
   pub mask : T (is_mask (fg, bg))
 
-pub hit_ready : (W H fg bg : ℕ) (image out : List ℕ) {r : ℕ} → r ≡ first_refusal (hit_rows W H (fg, bg) image out) → r ≡ 0 → HitReady W H fg bg image out
-hit_ready W H fg bg image out q z =
-    let c = clear-out (hit_rows W H (fg, bg) image out) tt (sym q ∙ z) in
+pub hit_ready : (W H fg bg : ℕ) (image out : List ℕ) → 0 ≡ first_refusal (hit_rows W H (fg, bg) image out) → HitReady W H fg bg image out
+hit_ready W H fg bg image out q =
+    let c = clear-out (hit_rows W H (fg, bg) image out) tt (sym q) in
     let l = lengths-out (not_plane W H image ∷ not_plane W H out ∷ []) c.1.0 in
     let f = sides-frame (sides_of W H c.0) in
     record {
@@ -41,8 +41,8 @@ hit_ready W H fg bg image out q z =
 
 -- ---- thinning
 
-pub thin_ready : (W H : ℕ) (image work : List ℕ) {r : ℕ} → r ≡ first_refusal (thin_rows W H image work) → r ≡ 0 → Ready W H image image work
-thin_ready W H image work q z =
-    let c = clear-out (thin_rows W H image work) tt (sym q ∙ z) in
+pub thin_ready : (W H : ℕ) (image work : List ℕ) → 0 ≡ first_refusal (thin_rows W H image work) → Ready W H image image work
+thin_ready W H image work q =
+    let c = clear-out (thin_rows W H image work) tt (sym q) in
     let l = lengths-out (not_plane W H image ∷ short_work W H work ∷ []) c.1.0 in
     ready W H image image work (sides-frame (sides_of W H c.0)) l.0 l.0 l.1.0 c.1.1.0

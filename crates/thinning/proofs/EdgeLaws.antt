@@ -1,10 +1,10 @@
 -- The edge of the frame cleared in a row.
-use mathlib.Core.Bool.{Bool, ◌&&◌, and_assoc, and-false, and-true, false, true}
+use mathlib.Core.Bool.{Bool, ◌&&◌, and_assoc, and-false, false}
 use mathlib.Core.List.{List}
 use mathlib.Core.Path.{◌∙◌, ◌≡◌, ap, sym}
-use Prim.Native.Nat.{◌+◌, ◌-◌, ◌<◌, ◌≤◌, ℕ}
+use Prim.Native.Nat.{◌+◌, ◌-◌, ◌≤◌, ℕ}
 use native.Mathlib.Omega.{arith}
-use borrow.Author.Tests.{le-leb, le-ltb, lt-leb, lt-ltb}
+use borrow.Author.Tests.{le-ltb, lt-leb}
 use lib.Dec.{leb, ltb, ltb→lt, lt→ltb}
 use lib.ListN.{length, length-replicate, replicate}
 use Rattle.morphology.proofs.TestLaws.{T_ext}
@@ -34,20 +34,9 @@ row-cleared w h y u v e q = record {
       ∙ sym (ap (λ (b : Bool). row_bit u x && (inner w x && b)) e ∙ ap (λ (b : Bool). row_bit u x && b) (and-false (inner w x)) ∙ and-false (row_bit u x));
 }
 
--- the ends of any other
-pub row_ends : (w h y : ℕ) (u v : List ℕ) → inner h y ≡ true → Pixelwise u v (λ x b. b && inner w x) → Pixelwise u v (λ x b. b && (inner w x && inner h y))
-row_ends w h y u v e a = record {
-  size = a.size;
-  pixels = λ x l. a.pixels x l ∙ ap (λ (b : Bool). row_bit u x && b) (sym (ap (λ (b : Bool). inner w x && b) e ∙ and-true (inner w x)));
-}
-
 -- which rows these are
 pub first-row : (h y : ℕ) → y ≡ 0 → inner h y ≡ false
 first-row h y e = ap (λ (b : Bool). b && ltb (y + 1) h) (lt-leb 1 y (omega arith))
 
 pub last_row : (h y : ℕ) → y + 1 ≡ h → inner h y ≡ false
 last_row h y e = ap (λ (b : Bool). leb 1 y && b) (le-ltb (y + 1) h (omega arith)) ∙ and-false (leb 1 y)
-
-pub inner-row : (h y : ℕ) → (y ≡ 0 → ⊥) → y < h → (y + 1 ≡ h → ⊥) → inner h y ≡ true
-inner-row h y first l last =
-    ap (λ (b : Bool). b && ltb (y + 1) h) (le-leb 1 y (omega (arith, first))) ∙ lt-ltb (y + 1) h (omega (arith, last))

@@ -4,7 +4,7 @@ use mathlib.Core.List.{List, [], ◌∷◌}
 use mathlib.Core.Path.{◌∙◌, ◌≡◌, ap, ap₂, sym}
 use Prim.Native.Nat.{ℕ}
 use lib.Dec.{T}
-use Rattle.morphology.specs.Answers.{foreground, outcome, refused}
+use Rattle.morphology.specs.Answers.{foreground, outcome}
 use Rattle.morphology.specs.Element.{is_mask}
 use Rattle.morphology.specs.Image.{image_set, ones_of, pack}
 use Rattle.morphology.specs.Labels.{area}
@@ -15,18 +15,13 @@ use Rattle.morphology.specs.Thinning.{hit}
 use Rattle.morphology.proofs.FrameLaws.{OnFrame}
 use Rattle.morphology.proofs.ImageLaws.{image_on}
 use Rattle.morphology.proofs.PlaneLaws.{area-pack, on_sub}
-use Rattle.morphology.proofs.RefusalLaws.{checked_refused, unless_in}
+use Rattle.morphology.proofs.RefusalLaws.{unless_in}
 use Rattle.morphology.proofs.ThinningLaws.{hit-part}
 
 pub hit_on : (W H : ℕ) (m : ℕ × ℕ) → T (is_mask m) → (X : Point → Bool) → OnFrame W H X → OnFrame W H (hit W H m X)
 hit_on W H m t X on = on_sub W H (hit W H m X) X (hit-part W H m t X) on
 
 -- ---- the promise of hit-or-miss
-
-pub hit-refused : (W H : ℕ) (m : ℕ × ℕ) (image out : List ℕ) (r : ℕ) → r ≡ first_refusal (hit_rows W H m image out) → (r ≡ 0 → ⊥)
-    → outcome (refused r) (out ∷ []) ≡ hit_or_miss W H m image out
-unfolding hit_or_miss
-hit-refused W H m image out r q f = checked_refused (hit_rows W H m image out) (out ∷ []) _ r q f
 
 pub hit-outcome : (W H : ℕ) (m : ℕ × ℕ) (image out s : List ℕ) (n : ℕ) → T (is_mask m) → first_refusal (hit_rows W H m image out) ≡ 0
     → s ≡ pack W H (hit W H m (image_set W H image)) → n ≡ ones_of s → outcome (foreground n) (s ∷ []) ≡ hit_or_miss W H m image out

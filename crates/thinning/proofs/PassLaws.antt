@@ -8,10 +8,12 @@ use native.Mathlib.Omega.{arith}
 use lib.Dec.{T}
 use lib.ListN.{drop, get_or, length, length-append, length-drop, replicate, take}
 use lib.Seq.{drop_at, take_at}
+use Rattle.raster.specs.Frames.{Sheet}
+use Rattle.iteration.proofs.StepLaws.{sheet-bytes}
 use Rattle.morphology.specs.Element.{is_mask}
 use Rattle.morphology.specs.Image.{image_set, is_clean, pack, plane_bytes, stride}
 use Rattle.morphology.specs.Point.{Point}
-use Rattle.morphology.specs.Thinning.{golay_l, hit, thin_pass, thin_step}
+use Rattle.morphology.specs.Thinning.{golay_l, hit, thin_step}
 use Rattle.morphology.proofs.ImageLaws.{length-pack, pixel-pack-wide}
 use Rattle.morphology.proofs.PlaneLaws.{Plane}
 use Rattle.raster.specs.Rows.{Pixelwise, row_bit}
@@ -33,11 +35,9 @@ less-hits W H Y image t len clean bytes a =
     (row-image W H R image refl clean y x hy hx)
     (row-pixel W (pack W H Y) R x y refl ∙ pixel-pack-wide W H Y x y (omega arith) hy)))
 
--- the hits in the first plane of work
-pub front-size : (W H p : ℕ) (Y : Point → Bool) (ys rest : List ℕ) → p ≡ plane_bytes W H → ys ≡ pack W H Y → length (take p (ys ++ rest)) ≡ p
-front-size W H p Y ys rest q e =
-    let size : length ys ≡ p = ap length e ∙ length-pack W H Y ∙ sym q in
-    ap length (take_at ys rest p size) ∙ size
+-- the plane that the image begins as
+pub begun : {W H r p : ℕ} {s : List ℕ} → Sheet W H r p → length s ≡ p → ((i : ℕ) → get_or s i 0 < 256) → T (is_clean W H s) → Plane W H s
+begun k e b c = record { size = e ∙ sheet-bytes k; bytes = b; clean = c }
 
 -- a step, with the hits in the first plane of work
 pub step-leaves : (W H p : ℕ) (m : ℕ × ℕ) (image t work ys : List ℕ) → p ≡ plane_bytes W H → length image ≡ p → p ≤ length work → T (is_clean W H image)
@@ -69,9 +69,6 @@ module _ (W H p : ℕ) where
     size = b.size ∙ a.size;
     rest = b.rest ∙ a.rest;
   }
-
-  pub pass_done : (k : ℕ) (s t work work' : List ℕ) → k ≡ 8 → Leaves p (masks_below W H k s) t work work' → Leaves p (thin_pass W H golay_l s) t work work'
-  pass_done k s t work work' e a = record { image = a.image ∙ ap (λ (i : ℕ). masks_below W H i s) e; size = a.size; rest = a.rest }
 
   -- the image stays a plane
   pub masks-plane : (k : ℕ) (s t work work' : List ℕ) → Plane W H s → Leaves p (masks_below W H k s) t work work' → Plane W H t

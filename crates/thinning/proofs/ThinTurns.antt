@@ -9,7 +9,7 @@ use native.Mathlib.Omega.{arith}
 use borrow.Author.Tests.{eq-eqb, ne_eqb}
 use lib.ListN.{get_or, take}
 use lib.Seq.{take-suc}
-use Rattle.morphology.specs.Answers.{Outcome, outcome, refused, thinned}
+use Rattle.morphology.specs.Answers.{Outcome, outcome, thinned}
 use Rattle.morphology.specs.Image.{image_set}
 use Rattle.morphology.specs.Operations.{cleared, thin, thin_rows}
 use Rattle.morphology.specs.Point.{Point}
@@ -17,7 +17,7 @@ use Rattle.morphology.specs.Refusals.{first_refusal}
 use Rattle.morphology.specs.Thinning.{Thinned, golay_l, hit, thin_pass, thin_passes, thin_step}
 use Rattle.morphology.proofs.ImageLaws.{image_on}
 use Rattle.morphology.proofs.PlaneLaws.{Plane, on_sub, plane-pack}
-use Rattle.morphology.proofs.RefusalLaws.{checked_refused, unless_in}
+use Rattle.morphology.proofs.RefusalLaws.{unless_in}
 use Rattle.morphology.proofs.TestLaws.{and_l}
 use Rattle.morphology.proofs.ThinningLaws.{ends, less, pass, passes-suc, points, thin-enough}
 
@@ -107,11 +107,6 @@ module _ (W H : ℕ) where
   passed_bound n p t h f = let l = less W H t (ne_eqb (points W H t) (points W H (pass W H t)) f) in omega arith
 
   -- ---- the promise of thinning
-
-  pub thin-refused : (image work : List ℕ) (r : ℕ) → r ≡ first_refusal (thin_rows W H image work) → (r ≡ 0 → ⊥)
-      → outcome (refused r) (image ∷ work ∷ []) ≡ thin W H image work
-  unfolding thin
-  thin-refused image work r q f = checked_refused (thin_rows W H image work) (image ∷ work ∷ []) _ r q f
 
   -- from what the passes leave
   pub thin-outcome : (image work t : List ℕ) (n : ℕ) → first_refusal (thin_rows W H image work) ≡ 0

@@ -1,9 +1,10 @@
 // The edge of the sheet, where nothing is hit: the first and the last row, the first and the last pixel of each row.
 ghost use Rattle.std.specs.Prelude.{◌≡◌, ◌&&◌, ◌+◌, ◌*◌, ◌<◌, ◌≤◌, length};
-ghost use Rattle.raster.specs.Frames.{Frame};
 ghost use Rattle.raster.specs.Limits.{max_stride};
 ghost use Rattle.raster.specs.Rows.{Pixelwise, PlaneIs, row_bit};
 ghost use Rattle.thinning.specs.Hits.{inner};
+
+use raster::Frame;
 
 // Clears the first and the last pixel of a row of w.
 fn clear_ends(w: usize, row: &mut [u8])
@@ -15,29 +16,28 @@ fn clear_ends(w: usize, row: &mut [u8])
 }
 
 // Clears what row y of h has on the edge: all of the first and of the last row, the ends of any other.
-fn clear_row(w: usize, h: usize, y: usize, row: &mut [u8])
-    requires { Frame w h (length row.old) × (y < h) }
-    ensures { Pixelwise row.old row.new (λ x b. b && (inner w x && inner h y)) }
+fn clear_row(f: Frame, y: usize, row: &mut [u8])
+    requires { (length row.old ≡ f.r) × (y < f.h) }
+    ensures { Pixelwise row.old row.new (λ x b. b && (inner f.w x && inner f.h y)) }
 {
     let first = y == 0;
-    let last = y + 1 == h;
+    let last = y + 1 == f.h;
     if first || last {
-        raster::fill(row, 0);
+        row.fill(0);
         return;
     }
-    clear_ends(w, row);
+    clear_ends(f.w, row);
 }
 
 // Clears the edge of a plane.
-pub fn clear(w: usize, h: usize, r: usize, plane: &mut [u8])
-    requires { Frame w h r × (h * r ≤ length plane.old) }
-    ensures { PlaneIs 0 r h plane.old plane.new
-        (λ y x. row_bit plane.old (8 * (0 + y * r) + x) && (inner w x && inner h y)) }
+pub fn clear(f: Frame, plane: &mut [u8])
+    requires { (f.h * f.r ≤ length plane.old) }
+    ensures { PlaneIs 0 f.r f.h plane.old plane.new
+        (λ y x. row_bit plane.old (8 * (0 + y * f.r) + x) && (inner f.w x && inner f.h y)) }
 {
-    let mut y: usize = 0;
-    while y < h {
+    let Frame { h, r, .. } = f;
+    for y in 0..h {
         let d = y * r;
-        clear_row(w, h, y, &mut plane[d..d + r]);
-        y = y + 1;
+        clear_row(f, y, &mut plane[d..d + r]);
     }
 }

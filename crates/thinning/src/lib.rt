@@ -10,32 +10,20 @@ ghost use Rattle.morphology.specs.Image.{image_set, pack, is_clean};
 ghost use Rattle.morphology.specs.Operations.{hit_or_miss, hit_rows, thin_rows, thin as thin_whole};
 ghost use Rattle.morphology.specs.Refusals.{first_refusal, row6};
 ghost use Rattle.morphology.specs.Thinning.{hit, golay_l, thin_step, thin_pass};
-ghost use Rattle.raster.specs.Frames.{Frame};
-ghost use Rattle.iteration.specs.Steps.{Sheet};
-ghost use Rattle.iteration.specs.Written.{answer_of};
+ghost use Rattle.refusals.specs.Refusal.{answer_of, refusal_of};
 ghost use Rattle.thinning.specs.Hits.{widened};
 ghost use Rattle.thinning.specs.Passes.{Leaves, Ended};
 ghost use Rattle.thinning.specs.Thinned.{answer_of as thinned_answer};
 
-pub use iteration::Written;
+use raster::{Frame, Join};
+use refusals::Refusal;
 
 // The answer of thinning: passes made with the idle one, points removed, area left.
-#[derive(Drop)]
-pub enum Thinned {
-    Refused(u8),
-    Done {
-        passes: u32,
-        removed: u32,
-        left: u32,
-    },
-}
-
-// What the passes of thinning did.
-#[derive(Drop)]
-struct Tally {
-    passes: u32,
-    removed: u32,
-    left: u32,
+#[derive(Clone, Copy, Debug, PartialEq, Eq)]
+pub struct Thinned {
+    pub passes: u32,
+    pub removed: u32,
+    pub left: u32,
 }
 
 // A hit-or-miss mask: foreground, background.
@@ -77,14 +65,22 @@ fn widen(mask: u32) -> u32
 
 // The points of an image that a mask hits. The centre is foreground, so that out begins with the image. What is asked beyond
 // the sheet does not matter: it is asked at the edge alone, where nothing is hit.
-fn hit_plane(w: usize, h: usize, r: usize, fg: u32, bg: u32, image: &[u8], out: &mut [u8])
-    requires { Frame w h r × (length image.now ≡ h * r) × (length out.old ≡ h * r) × T (is_mask (fg, bg)) × T (is_clean w h image.now) }
-    ensures { out.new ≡ pack w h (hit w h (fg, bg) (image_set w h image.now)) }
+fn hit_plane(f: Frame, mask: Mask, image: &[u8], out: &mut [u8])
+    requires { (length image.now ≡ f.h * f.r) × (length out.old ≡ f.h * f.r) × T (is_mask (mask.fg, mask.bg)) × T (is_clean f.w f.h image.now) }
+    ensures { out.new ≡ pack f.w f.h (hit f.w f.h (mask.fg, mask.bg) (image_set f.w f.h image.now)) }
 {
-    raster::copy(image, out);
-    neighbours::join_mask(false, image, out, r, h, widen(fg) - elements::ORIGIN);
-    neighbours::join_mask(true, image, out, r, h, widen(bg));
-    edges::clear(w, h, r, out);
+    out.copy_from_slice(image);
+    let ink = Join {
+        dilating: false,
+        inverse: false,
+    };
+    let blank = Join {
+        dilating: false,
+        inverse: true,
+    };
+    neighbours::join_plane(ink, image, out, f, widen(mask.fg) - elements::ORIGIN);
+    neighbours::join_plane(blank, image, out, f, widen(mask.bg));
+    edges::clear(f, out);
 }
 
 // Row 6: a mask has a bit above 8, lacks the centre in the foreground, or its two numbers overlap.
@@ -103,79 +99,68 @@ fn bad_mask(fg: u32, bg: u32) -> bool
     fg & bg != 0
 }
 
-// The first row of the table of refusals that applies to hit-or-miss; 0 if there is none.
-fn hit_refusal(w: u32, h: u32, fg: u32, bg: u32, image: &[u8], out: &[u8]) -> u8
-    ensures { result ≡ first_refusal (hit_rows w h (fg, bg) image.now out.now) }
+// The rows of the table of refusals that hit-or-miss has.
+fn hit_refusal(w: u32, h: u32, fg: u32, bg: u32, image: &[u8], out: &[u8]) -> Result<(), Refusal>
+    ensures { refusal_of result ≡ first_refusal (hit_rows w h (fg, bg) image.now out.now) }
 {
-    if refusals::bad_sides(w, h) {
-        return 1;
-    }
+    Refusal::Sides.when(refusals::bad_sides(w, h))?;
     let out_wrong = refusals::not_plane(w, h, out);
-    let lengths = refusals::image_rows(w, h, image, out_wrong, false);
-    let mask = refusals::row(6, bad_mask(fg, bg));
-    refusals::first(lengths, mask)
+    refusals::image_rows(w, h, image, out_wrong, false)?;
+    Refusal::Mask.when(bad_mask(fg, bg))
 }
 
 // Hit-or-miss by one mask: the points of image that it hits, into out.
-pub fn hit_or_miss(w: u32, h: u32, fg: u32, bg: u32, image: &[u8], out: &mut [u8]) -> Written
+pub fn hit_or_miss(
+    w: u32,
+    h: u32,
+    fg: u32,
+    bg: u32,
+    image: &[u8],
+    out: &mut [u8],
+) -> Result<u32, Refusal>
     ensures { outcome (answer_of result) (out.new ∷ []) ≡ hit_or_miss w h (fg, bg) image.now out.old }
 {
-    let refusal = hit_refusal(w, h, fg, bg, image, &out[..]);
-    let refuses = refusal != 0;
-    if refuses {
-        return Written::Refused(refusal);
-    }
-    let wide = w as usize;
-    hit_plane(wide, h as usize, (wide + 7) / 8, fg, bg, image, out);
+    hit_refusal(w, h, fg, bg, image, &out[..])?;
+    let f = Frame::new(w as usize, h as usize);
+    hit_plane(f, Mask { fg, bg }, image, out);
     let area = raster::count_ones(&out[..]);
-    Written::Area(area)
+    Ok(area)
 }
 
 // A step of thinning: all points that a mask hits are removed at once. The hits stand in the first plane of work.
-fn thin_step(
-    w: usize,
-    h: usize,
-    r: usize,
-    p: usize,
-    fg: u32,
-    bg: u32,
-    image: &mut [u8],
-    work: &mut [u8],
-)
-    requires { Sheet w h r p × (length image.old ≡ p) × (p ≤ length work.old) × T (is_mask (fg, bg)) × T (is_clean w h image.old) }
-    ensures { Leaves p (thin_step w h (fg, bg) image.old) image.new work.old work.new }
+fn thin_step(f: Frame, mask: Mask, image: &mut [u8], work: &mut [u8])
+    requires { (length image.old ≡ f.p) × (f.p ≤ length work.old) × T (is_mask (mask.fg, mask.bg)) × T (is_clean f.w f.h image.old) }
+    ensures { Leaves f.p (thin_step f.w f.h (mask.fg, mask.bg) image.old) image.new work.old work.new }
 {
-    hit_plane(w, h, r, fg, bg, &image[..], &mut work[..p]);
+    let Frame { p, .. } = f;
+    hit_plane(f, mask, &image[..], &mut work[..p]);
     raster::subtract(&work[..p], image);
 }
 
 // A pass of thinning: a step by each mask of the house set, in order, each on the result of the last.
-fn thin_pass(w: usize, h: usize, r: usize, p: usize, image: &mut [u8], work: &mut [u8])
-    requires { Sheet w h r p × (length image.old ≡ p) × (p ≤ length work.old) × T (is_clean w h image.old) }
-    ensures { Leaves p (thin_pass w h golay_l image.old) image.new work.old work.new }
+fn thin_pass(f: Frame, image: &mut [u8], work: &mut [u8])
+    requires { (length image.old ≡ f.p) × (f.p ≤ length work.old) × T (is_clean f.w f.h image.old) }
+    ensures { Leaves f.p (thin_pass f.w f.h golay_l image.old) image.new work.old work.new }
 {
-    let mut k: usize = 0;
-    while k < 8 {
-        let mask = GOLAY_L[k];
-        thin_step(w, h, r, p, mask.fg, mask.bg, image, work);
-        k = k + 1;
+    for mask in &GOLAY_L {
+        thin_step(f, *mask, image, work);
     }
 }
 
 // Passes of thinning until one removes nothing.
-fn thin_passes(w: usize, h: usize, r: usize, p: usize, image: &mut [u8], work: &mut [u8]) -> Tally
-    requires { Sheet w h r p × (length image.old ≡ p) × (p ≤ length work.old) × T (is_clean w h image.old) }
-    ensures { Ended w h p image.old image.new work.old work.new result.passes result.removed result.left }
+fn thin_passes(f: Frame, image: &mut [u8], work: &mut [u8]) -> Thinned
+    requires { (length image.old ≡ f.p) × (f.p ≤ length work.old) × T (is_clean f.w f.h image.old) }
+    ensures { Ended f.w f.h f.p image.old image.new work.old work.new result.passes result.removed result.left }
 {
     let before = raster::count_ones(&image[..]);
     let mut left = before;
     let mut passes: u32 = 0;
     loop {
-        thin_pass(w, h, r, p, image, work);
-        passes = passes + 1;
+        thin_pass(f, image, work);
+        passes += 1;
         let area = raster::count_ones(&image[..]);
         if area == left {
-            return Tally {
+            return Thinned {
                 passes,
                 removed: before - left,
                 left,
@@ -185,34 +170,23 @@ fn thin_passes(w: usize, h: usize, r: usize, p: usize, image: &mut [u8], work: &
     }
 }
 
-// The first row of the table of refusals that applies to thinning; 0 if there is none.
-fn thin_refusal(w: u32, h: u32, image: &[u8], work: &[u8]) -> u8
-    ensures { result ≡ first_refusal (thin_rows w h image.now work.now) }
+// The rows of the table of refusals that thinning has.
+fn thin_refusal(w: u32, h: u32, image: &[u8], work: &[u8]) -> Result<(), Refusal>
+    ensures { refusal_of result ≡ first_refusal (thin_rows w h image.now work.now) }
 {
-    if refusals::bad_sides(w, h) {
-        return 1;
-    }
+    Refusal::Sides.when(refusals::bad_sides(w, h))?;
     let short = refusals::short_work(w, h, work);
     refusals::image_rows(w, h, image, false, short)
 }
 
 // Thinning by the house set: the image in place.
-pub fn thin(w: u32, h: u32, image: &mut [u8], work: &mut [u8]) -> Thinned
+pub fn thin(w: u32, h: u32, image: &mut [u8], work: &mut [u8]) -> Result<Thinned, Refusal>
     ensures { outcome (thinned_answer result) (image.new ∷ work.new ∷ [])
         ≡ thin_whole w h image.old work.old }
 {
-    let row = thin_refusal(w, h, &image[..], &work[..]);
-    let refuses = row != 0;
-    if refuses {
-        return Thinned::Refused(row);
-    }
-    let r = (w as usize + 7) / 8;
-    let p = h as usize * r;
-    let tally = thin_passes(w as usize, h as usize, r, p, image, work);
-    iteration::clear_work(p, work);
-    Thinned::Done {
-        passes: tally.passes,
-        removed: tally.removed,
-        left: tally.left,
-    }
+    thin_refusal(w, h, &image[..], &work[..])?;
+    let f = Frame::new(w as usize, h as usize);
+    let done = thin_passes(f, image, work);
+    iteration::clear_work(f.p, work);
+    Ok(done)
 }

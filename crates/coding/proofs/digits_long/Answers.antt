@@ -2,9 +2,6 @@ use native.Mathlib.Omega.{arith}
 use Rattle.coding.proofs.NumeralLaws.{length-small, length_third}
 use Rattle.coding.proofs.digits_long.Goals as goal
 
-pub loop-left-init : goal.loop-left-init
-loop-left-init c = (omega arith, omega arith)
-
 pub loop-left-preserved : goal.loop-left-preserved
 loop-left-preserved c =
     let l = c.loop-left in

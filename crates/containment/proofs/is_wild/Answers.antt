@@ -11,9 +11,3 @@ returns-then-tame c =
     let a = c.args in
     sym
     (dots-tame a.w a.h (offsets a.element) (element a.element c.requires.2) a.labels.now (omega (arith, c.greatest-tame.ensures, c.if-tame.true)))
-
-pub has_wild-requires : goal.has_wild-requires
-has_wild-requires c = c.requires
-
-pub returns : goal.returns
-returns c = c.has_wild.ensures

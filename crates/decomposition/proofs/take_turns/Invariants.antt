@@ -3,7 +3,7 @@
 use mathlib.Core.Bool.{false}
 use mathlib.Core.Path.{◌≡◌}
 use Prim.Native.Nat.{◌-◌, max}
-use lib.ListN.{length, take}
+use lib.ListN.{take}
 use Rattle.morphology.specs.Element.{offsets}
 use Rattle.morphology.specs.Image.{image_set}
 use Rattle.iteration.specs.Bands.{Banded}
@@ -11,7 +11,7 @@ use Rattle.decomposition.specs.Turns.{Turns}
 use Rattle.decomposition.proofs.take_turns.Given as goal
 
 abbrev pub invariant-loop-from : goal.invariant-loop-from
-invariant-loop-from l = Turns l.w l.h l.p (offsets l.element) (image_set l.w l.h l.initial.work) l.n l.initial.work l.work l.labels l.points × (length l.labels ≡ length l.initial.labels) × Banded l.h l.r l.from l.to (take l.p l.work) × (l.clipped ≡ false)
+invariant-loop-from l = Turns l.fn.f.w l.fn.f.h l.fn.f.p (offsets l.element) (image_set l.fn.f.w l.fn.f.h l.initial.work) l.n l.initial.work l.work l.labels l.points × Banded l.fn.f.h l.fn.f.r l.from l.to (take l.fn.f.p l.work) × (l.clipped ≡ false)
 
 abbrev pub decreases-loop-from : goal.decreases-loop-from
-decreases-loop-from l = max l.w l.h - l.n
+decreases-loop-from l = max l.fn.f.w l.fn.f.h - l.n

@@ -4,7 +4,6 @@ use Prim.Native.Nat.{◌*◌, ℕ}
 use mathlib.Core.Bool.{Bool}
 use native.Mathlib.Omega.{arith}
 use lib.ListN.{replicate}
-use lib.Seq.{length-take-le}
 use Rattle.coding.specs.Symbols.{pack_symbols}
 use Rattle.coding.specs.Writing.{eroded_runs}
 use Rattle.morphology.specs.Element.{offsets}
@@ -13,40 +12,28 @@ use Rattle.iteration.proofs.StepLaws.{loaded, loaded-rest, sheet-bytes}
 use Rattle.encoding.specs.Sizes.{Gone, Lengths, symbols_below}
 use Rattle.encoding.proofs.write_image.Goals as goal
 
-pub slice_bounds-copy-end : goal.slice_bounds-copy-end
-slice_bounds-copy-end c = omega (arith, c.requires.1.work, sheet-bytes c.requires.0)
-
-pub slice_bounds-copy-end-2 : goal.slice_bounds-copy-end-2
-slice_bounds-copy-end-2 c = sym (length-take-le c.args.p c.args.work.now (omega (arith, c.requires.1.work, sheet-bytes c.requires.0)))
-
-pub copy-requires : goal.copy-requires
-copy-requires c =
-    let q = sheet-bytes c.requires.0 in
-    c.requires.1.image ∙ sym q ∙ sym (length-take-le c.args.p c.args.work.now (omega (arith, c.requires.1.work, q)))
-
 pub write_sizes-requires : goal.write_sizes-requires
 write_sizes-requires c =
     let a = c.args in
-    let q = sheet-bytes c.requires.0 in
-    let v = loaded a.w a.h a.p a.image.now a.image.now a.work.now _ q c.requires.1 c.copy.ensures in (
-      c.requires.0,
-      omega (arith, v.size, c.requires.1.work, q),
+    let q = sheet-bytes c.args.f.sheet in
+    let v = loaded a.f.w a.f.h a.f.p a.image.now a.image.now a.work.now _ q c.requires.0 c.copy_from_slice.ensures.after in (
+      omega (arith, v.size, c.requires.0.work, q),
+      c.requires.1,
       c.requires.2,
-      c.requires.3,
       v.clean,
-      subst (λ (X : Point → Bool). Lengths a.w a.h (offsets a.element) X a.sizes a.lengths.now a.symbols) (sym v.set) c.requires.4,
-      c.requires.5,
-      c.fill.ensures ∙ ap (λ (n : ℕ). replicate n 0) c.requires.6,
-      subst (λ (X : Point → Bool). Gone (offsets a.element) X a.sizes) (sym v.set) c.requires.7,
+      subst (λ (X : Point → Bool). Lengths a.f.w a.f.h (offsets a.element) X a.total.sizes a.lengths.now a.total.symbols) (sym v.set) c.requires.3,
+      c.requires.4,
+      c.fill.ensures.after (λ y e. e) ∙ ap (λ (n : ℕ). replicate n 0) c.requires.5,
+      subst (λ (X : Point → Bool). Gone (offsets a.element) X a.total.sizes) (sym v.set) c.requires.6,
     )
 
 pub returns : goal.returns
 returns c =
     let a = c.args in
-    let q = sheet-bytes c.requires.0 in
-    let v = loaded a.w a.h a.p a.image.now a.image.now a.work.now _ q c.requires.1 c.copy.ensures in
+    let q = sheet-bytes c.args.f.sheet in
+    let v = loaded a.f.w a.f.h a.f.p a.image.now a.image.now a.work.now _ q c.requires.0 c.copy_from_slice.ensures.after in
     let e = c.write_sizes.ensures in (
-      e.0 ∙ ap (λ (X : Point → Bool). pack_symbols (symbols_below (eroded_runs a.w a.h (offsets a.element) X) a.sizes)) v.set,
+      e.0 ∙ ap (λ (X : Point → Bool). pack_symbols (symbols_below (eroded_runs a.f.w a.f.h (offsets a.element) X) a.total.sizes)) v.set,
       e.1 ∙ v.size,
-      e.2 ∙ loaded-rest a.p (3 * a.p) a.image.now a.work.now _ (omega arith) (c.requires.1.image ∙ sym q) c.copy.ensures,
+      e.2 ∙ loaded-rest a.f.p (3 * a.f.p) a.image.now a.work.now _ (omega arith) (c.requires.0.image ∙ sym q) c.copy_from_slice.ensures.after,
     )

@@ -1,18 +1,18 @@
 -- `iteration::dilate_step` meets its contract. The dilation of the first plane, copied down, is the next first plane.
+use mathlib.Core.Path.{◌∙◌}
+use Prim.Native.Nat.{◌*◌}
 use native.Mathlib.Omega.{arith}
 use Rattle.morphology.proofs.ElementLaws.{element-bit}
-use Rattle.iteration.proofs.StepLaws.{sheet-bytes, step_done}
+use Rattle.iteration.proofs.StepLaws.{copied-down, sheet-bytes, step_done}
 use Rattle.iteration.proofs.dilate_step.Goals as goal
 
 pub dilate_plane-clipped-requires : goal.dilate_plane-clipped-requires
 dilate_plane-clipped-requires c =
-    (c.requires.0.frame, omega (arith, c.requires.0.plane), omega (arith, c.requires.0.plane, c.requires.1), element-bit _ c.requires.2, c.requires.3)
+    (omega (arith, c.args.f.sheet.plane), omega (arith, c.args.f.sheet.plane, c.requires.0), element-bit _ c.requires.1, c.requires.2)
 
-pub returns : goal.returns
-returns c =
+pub returns-clause-plane : goal.returns-clause-plane
+returns-clause-plane c =
     let a = c.args in
-    let d = c.dilate_plane-clipped.ensures in
-    record {
-      plane = step_done a.w a.h a.p _ a.work.now c.dilate_plane-clipped.new.work _ (sheet-bytes c.requires.0) c.requires.1 d.plane c.copy_down.ensures;
-      clipped = d.clipped;
-    }
+    let v = c.dilate_plane-clipped.new.work in
+    step_done a.f.w a.f.h a.f.p _ a.work.now v _ (sheet-bytes c.args.f.sheet) c.requires.0 c.dilate_plane-clipped.ensures.plane
+    (c.copy_within.ensures.after ∙ copied-down a.f.p a.f.p (2 * a.f.p) v (omega arith))

@@ -1,19 +1,22 @@
 -- `iteration::erode_step` meets its contract. The erosion of the first plane, copied down, is the next first plane.
+use mathlib.Core.Path.{◌∙◌}
+use Prim.Native.Nat.{◌*◌}
 use native.Mathlib.Omega.{arith}
 use Rattle.morphology.proofs.ElementLaws.{element-bit}
-use Rattle.iteration.proofs.StepLaws.{sheet-bytes, step_done}
+use Rattle.iteration.proofs.StepLaws.{copied-down, sheet-bytes, step_done}
 use Rattle.iteration.proofs.erode_step.Goals as goal
 
 pub erode_plane-requires : goal.erode_plane-requires
 erode_plane-requires c = (
-  c.requires.0.frame,
-  omega (arith, c.requires.0.plane),
-  omega (arith, c.requires.0.plane, c.requires.1),
-  element-bit c.args.element c.requires.2,
-  c.requires.3,
+  omega (arith, c.args.f.sheet.plane),
+  omega (arith, c.args.f.sheet.plane, c.requires.0),
+  element-bit c.args.element c.requires.1,
+  c.requires.2,
 )
 
 pub returns : goal.returns
 returns c =
     let a = c.args in
-    step_done a.w a.h a.p _ a.work.now c.erode_plane.new.work _ (sheet-bytes c.requires.0) c.requires.1 c.erode_plane.ensures c.copy_down.ensures
+    let v = c.erode_plane.new.work in
+    step_done a.f.w a.f.h a.f.p _ a.work.now v _ (sheet-bytes c.args.f.sheet) c.requires.0 c.erode_plane.ensures
+    (c.copy_within.ensures.after ∙ copied-down a.f.p a.f.p (2 * a.f.p) v (omega arith))

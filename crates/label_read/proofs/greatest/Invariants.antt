@@ -1,13 +1,9 @@
 -- `label_read::greatest` meets its contract.
--- The invariant: m is the largest of the first i labels. The measure is the labels left.
+-- The invariant: m is the largest of the labels before b.
 use mathlib.Core.Path.{◌≡◌}
-use Prim.Native.Nat.{◌-◌, ◌≤◌}
-use lib.ListN.{length, take}
+use lib.ListN.{take}
 use Rattle.morphology.specs.Lists.{greatest}
 use Rattle.label_read.proofs.greatest.Given as goal
 
-abbrev pub invariant-loop-i : goal.invariant-loop-i
-invariant-loop-i l = (l.i ≤ length l.labels) × (l.m ≡ greatest (take l.i l.labels))
-
-abbrev pub decreases-loop-i : goal.decreases-loop-i
-decreases-loop-i l = length l.labels - l.i
+abbrev pub invariant-loop-b : goal.invariant-loop-b
+invariant-loop-b l = l.m ≡ greatest (take l.b-index l.labels)

@@ -1,13 +1,9 @@
 -- `label_read::greatest_below` meets its contract.
--- The invariant: m is the largest of the first i labels that is below v. The measure is the labels left.
+-- The invariant: m is the largest of the labels before b that is below v.
 use mathlib.Core.Path.{◌≡◌}
-use Prim.Native.Nat.{◌-◌, ◌≤◌}
-use lib.ListN.{length, take}
+use lib.ListN.{take}
 use Rattle.label_read.specs.Points.{greatest_below}
 use Rattle.label_read.proofs.greatest_below.Given as goal
 
-abbrev pub invariant-loop-i : goal.invariant-loop-i
-invariant-loop-i l = (l.i ≤ length l.row) × (l.m ≡ greatest_below l.v (take l.i l.row))
-
-abbrev pub decreases-loop-i : goal.decreases-loop-i
-decreases-loop-i l = length l.row - l.i
+abbrev pub invariant-loop-b : goal.invariant-loop-b
+invariant-loop-b l = l.m ≡ greatest_below l.v (take l.b-index l.row)

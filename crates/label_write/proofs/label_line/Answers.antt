@@ -10,6 +10,3 @@ returns-then-same_rows c =
     let a = c.args in
     row_same a.s.now (a.y * a.r) (a.q + a.y * a.r) a.r (a.y * a.w) a.w a.v a.labels.now (omega (arith, c.requires.0))
     (same_bytes a.s.now (a.y * a.r) (a.q + a.y * a.r) a.r (sym c.same_rows.ensures ∙ c.if-same_rows.true))
-
-pub returns : goal.returns
-returns c = c.label_bytes.ensures

@@ -1,52 +1,30 @@
-use native.Mathlib.Nat.{mul_comm, mul-le-mul_right}
-use native.Mathlib.Omega.{arith}
-use Rattle.label_write.specs.Labelled.{lacking}
-use Rattle.label_write.proofs.LabelLaws.{area_small, rows_join, rows-labelled, rows_none}
+use Rattle.std.proofs.Common.{◌≡◌, ◌*◌, ◌+◌, ℕ, arith, min, subst}
+use Rattle.label_write.specs.Labelled.{RowsLabelled, lacking}
+use Rattle.label_write.proofs.LabelLaws.{area_small, rows_join, rows-labelled}
 use Rattle.label_write.proofs.label_plane.Goals as goal
-
-pub loop-y-init : goal.loop-y-init
-loop-y-init c =
-    let a = c.args in
-    (omega arith, rows_none a.w (lacking a.w a.h a.q a.s.now) a.v 0 a.labels.now)
-
-pub label_rows-n-requires : goal.label_rows-n-requires
-label_rows-n-requires c =
-    let a = c.args in
-    let l = c.loop-y in
-    let e = c.block_end-e.result in
-    let g = c.block_end-e.ensures in
-    let f = c.requires.0 in
-    let m = mul-le-mul_right a.r g.1 in (
-      record { wide = f.wide; across = f.across; down = omega (arith, f.down, g.1); row = f.row },
-      omega (arith, g.0),
-      omega (arith, m, c.requires.1),
-      omega (arith, m, c.requires.2),
-      omega (arith, mul-le-mul_right a.w g.1, mul_comm a.h a.w, c.requires.3, l.invariant.1.size),
-    )
 
 pub overflow_add-n : goal.overflow_add-n
 overflow_add-n c =
     let a = c.args in
-    let g = c.block_end-e.ensures in
-    let k = (c.label_rows-n.ensures a.h g.1).points in
-    let m = area_small a.w (lacking a.w a.h a.q a.s.now) c.block_end-e.result c.requires.0.across (omega (arith, c.requires.0.down, g.1)) in
-    omega (arith, k, m, c.loop-y.invariant.1.points)
+    let S = lacking a.f.w a.f.h a.q a.s.now in
+    let k = (c.label_rows-n.ensures a.f.h (omega arith)).points in
+    let m = area_small a.f.w S c.min.result c.args.f.sheet.frame.across (omega arith) in
+    let o = area_small a.f.w S (min a.f.h (16 * c.loop-k.k)) c.args.f.sheet.frame.across (omega arith) in
+    omega (arith, c.loop-k.invariant.points)
 
-pub loop-y-preserved : goal.loop-y-preserved
-loop-y-preserved c =
+pub loop-k-preserved : goal.loop-k-preserved
+loop-k-preserved c =
     let a = c.args in
-    let l = c.loop-y in
-    let g = c.block_end-e.ensures in (
-      g.1,
-      rows_join a.w (lacking a.w a.h a.q a.s.now) a.v 0 l.y _ a.labels.now l.labels _ l.n _ (omega arith) (omega (arith, g.0)) l.invariant.1
-          (c.label_rows-n.ensures a.h g.1),
-    )
-
-pub shape_of-labels : goal.shape_of-labels
-shape_of-labels c = c.loop-y.invariant.1.size
+    let l = c.loop-k in
+    let S = lacking a.f.w a.f.h a.q a.s.now in
+    let y : min a.f.h (16 * l.k) ≡ 16 * l.k = omega arith in
+    let e : c.min.result ≡ min a.f.h (16 * (l.k + 1)) = omega arith in
+    subst (λ (n : ℕ). RowsLabelled a.f.w S a.v 0 n a.labels.now c.label_rows-n.new.labels (l.n + c.label_rows-n.result)) e
+    (rows_join a.f.w S a.v 0 (16 * l.k) c.min.result a.labels.now l.labels _ l.n _ (omega arith) (omega arith)
+    (subst (λ (n : ℕ). RowsLabelled a.f.w S a.v 0 n a.labels.now l.labels l.n) y l.invariant) (c.label_rows-n.ensures a.f.h (omega arith)))
 
 pub returns : goal.returns
 returns c =
     let a = c.args in
-    let l = c.loop-y in
-    rows-labelled a.w a.h (lacking a.w a.h a.q a.s.now) a.v l.y a.labels.now l.labels l.n (omega arith) c.requires.3 l.invariant.1
+    let l = c.loop-k in
+    rows-labelled a.f.w a.f.h (lacking a.f.w a.f.h a.q a.s.now) a.v _ a.labels.now l.labels l.n (omega arith) c.requires.2 l.invariant

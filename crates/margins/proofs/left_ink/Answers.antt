@@ -8,9 +8,6 @@ returns-then-left-eq0 c =
     let a = c.args in
     none-ink a.s.now a.r a.h 0 a.left (omega (arith, c.if-left-eq0.true))
 
-pub seen-requires : goal.seen-requires
-seen-requires c = (c.requires.0, c.requires.1)
-
 pub returns : goal.returns
 returns c =
     let a = c.args in

@@ -1,17 +1,9 @@
 -- `neighbours::move_strip` meets its contract.
 -- The move of all bytes as one row is that of each row, once its ends are cleared; a move by none needs no clearing.
 use native.Mathlib.Omega.{arith}
-use mathlib.Core.Path.{sym}
 use Prim.Native.Nat.{◌*◌}
-use lib.Seq.{length-take-le}
 use Rattle.neighbours.proofs.StripLaws.{strip-cleared, strip-first, strip-whole}
 use Rattle.neighbours.proofs.move_strip.Goals as goal
-
-pub slice_bounds-move_bytes-end-2 : goal.slice_bounds-move_bytes-end-2
-slice_bounds-move_bytes-end-2 c = sym (length-take-le (c.args.m * c.args.r) c.args.strip.now c.requires.3)
-
-pub move_bytes-requires : goal.move_bytes-requires
-move_bytes-requires c = (c.requires.0, omega (arith, length-take-le (c.args.m * c.args.r) c.args.strip.now c.requires.3, c.requires.2))
 
 pub returns-then-wraps : goal.returns-then-wraps
 returns-then-wraps c =

@@ -1,64 +1,62 @@
 -- `placing::read_size` meets its contract: a size is over at once, or its first run begins a walk over the whole plane.
-use mathlib.Core.Path.{◌≡◌}
+use Prim.Native.Nat.{◌*◌, ◌<◌, ℕ}
 use native.Mathlib.Nat.{mul-le-mul_left}
 use native.Mathlib.Omega.{arith}
+use lib.ListN.{drop, get_or}
+use Rattle.std.specs.Prelude.{None, Option, Some}
 use Rattle.coding.specs.Symbols.{symbols_of}
 use Rattle.reading.specs.declared.Next.{Next}
-use Rattle.reading.specs.declared.Next.TheVariants.{Ended, Lost, Run}
-use Rattle.placing.specs.Planes.{SizeRead}
+use Rattle.reading.specs.declared.Next.TheVariants.{Ended, Run}
+use Rattle.reading.proofs.SeekLaws.{first_below}
+use Rattle.placing.specs.Planes.{PixelsWalked, SizeRead, plane_place}
 use Rattle.placing.proofs.PlaneLaws.{frame-pixels}
-use Rattle.placing.proofs.SizeLaws.{first_run_lem, section_of, size_once, size_walked}
+use Rattle.placing.proofs.SizeLaws.{section_of, size_once, size_walked}
 use Rattle.placing.proofs.read_size.Goals as goal
+use Rattle.placing.proofs.read_size.Goals.{After-place_blocks}
 
-pub overflow_mul-limit : goal.overflow_mul-limit
-overflow_mul-limit c = omega (arith, frame-pixels c.requires.0)
-
-pub overflow_cast-limit : goal.overflow_cast-limit
-overflow_cast-limit c = omega (arith, frame-pixels c.requires.0)
-
-pub first_run-requires : goal.first_run-requires
-first_run-requires c = (omega (arith, c.requires.4), omega (arith, frame-pixels c.requires.0))
-
-pub place_blocks-requires : goal.place_blocks-requires
-place_blocks-requires c =
+-- the walk from the first run on, where it ends with `next`
+walked : (c : After-place_blocks) (next : Option Next) → let a = c.args in
+    PixelsWalked (symbols_of a.stream.now) (a.f.w * a.f.h) (a.f.w * a.f.h) (plane_place a.f.w a.f.r) c.in-Run.left c.in-Run.at a.plane.now c.place_blocks.new.plane next
+    → ((i : ℕ) → get_or c.place_blocks.new.plane i 0 < 256)
+    → SizeRead (symbols_of a.stream.now) a.f.w a.f.h a.at a.plane.now c.place_blocks.new.plane (section_of next)
+walked c next p bytes =
     let a = c.args in
-    let e = c.first_run.ensures in
-    let p = c.requires in
-    let k = first_run_lem (symbols_of a.stream.now) a.at e.0 e.1 a.plane.now p.0 p.3 p.2 c.in-Run.is in
-    (p.0, omega (arith, mul-le-mul_left a.w p.1), p.2, p.3, k.0, omega (arith, frame-pixels p.0), omega (arith, k.0, k.1, frame-pixels p.0, p.4))
+    let q = c.requires in
+    size_walked (symbols_of a.stream.now) a.at a.plane.now c.args.f.sheet.frame q.2 q.1 next (rw c.in-Run.is at c.in_ok-end.ensures) p bytes
 
-pub returns-in-Lost : goal.returns-in-Lost
-returns-in-Lost c =
+pub returns-in_err-end : goal.returns-in_err-end
+returns-in_err-end c =
     let a = c.args in
-    let e = c.first_run.ensures in
-    let p = c.requires in
-    size_once (symbols_of a.stream.now) a.at e.0 e.1 a.plane.now p.0 p.3 p.2 Lost tt c.in-Lost.is (λ i. (c.slice_known-1.given i).fits)
+    let q = c.requires in
+    rw c.from_residual.ensures (size_once (symbols_of a.stream.now) a.at a.plane.now c.args.f.sheet.frame q.2 q.1 None tt c.in_err-end.ensures (λ i. (c.type_inv.plane i).fits))
 
 pub returns-in-Ended : goal.returns-in-Ended
 returns-in-Ended c =
     let a = c.args in
-    let e = c.first_run.ensures in
-    let p = c.requires in
-    size_once (symbols_of a.stream.now) a.at e.0 e.1 a.plane.now p.0 p.3 p.2 (Ended c.in-Ended.end) tt c.in-Ended.is
-    (λ i. (c.slice_known-1.given i).fits)
+    let q = c.requires in
+    let e = rw c.in-Ended.is at c.in_ok-end.ensures in
+    size_once (symbols_of a.stream.now) a.at a.plane.now c.args.f.sheet.frame q.2 q.1 (Some (Ended c.in-Ended.end)) tt e (λ i. (c.type_inv.plane i).fits)
 
-pub returns-in-Lost-place_blocks : goal.returns-in-Lost-place_blocks
-returns-in-Lost-place_blocks c =
-    let walked : (next : Next) → let a =
-    c.args in c.place_blocks.result ≡ next
-    → SizeRead (symbols_of a.stream.now) a.w a.h a.at a.plane.now c.place_blocks.new.plane (section_of next) = λ next q. (let a = c.args in let e = c.first_run.ensures in let p = c.requires in size_walked (symbols_of a.stream.now) a.at e.0 e.1 a.plane.now p.0 p.3 p.2 next c.in-Run.is q c.place_blocks.ensures (λ i. (c.slice_known-in-Run-1.given i).fits)) in
-    walked Lost c.in-Lost-place_blocks.is
+pub place_blocks-requires : goal.place_blocks-requires
+place_blocks-requires c =
+    let a = c.args in
+    let s = symbols_of a.stream.now in
+    let q = c.requires in
+    let e = rw c.in-Run.is at c.in_ok-end.ensures in
+    let k = first_below (a.f.w * a.f.h) c.in-Run.left (drop a.at s) (drop c.in-Run.at s) e.0 in
+    (omega (arith, mul-le-mul_left a.f.w q.0), q.1, q.2, k, omega (arith, frame-pixels c.args.f.sheet.frame), omega (arith, k, e.1, frame-pixels c.args.f.sheet.frame, q.3))
 
-pub returns-in-Ended-place_blocks : goal.returns-in-Ended-place_blocks
-returns-in-Ended-place_blocks c =
-    let walked : (next : Next) → let a =
-    c.args in c.place_blocks.result ≡ next
-    → SizeRead (symbols_of a.stream.now) a.w a.h a.at a.plane.now c.place_blocks.new.plane (section_of next) = λ next q. (let a = c.args in let e = c.first_run.ensures in let p = c.requires in size_walked (symbols_of a.stream.now) a.at e.0 e.1 a.plane.now p.0 p.3 p.2 next c.in-Run.is q c.place_blocks.ensures (λ i. (c.slice_known-in-Run-1.given i).fits)) in
-    walked (Ended c.in-Ended-place_blocks.end) c.in-Ended-place_blocks.is
+pub returns-in_err-end-in-Run : goal.returns-in_err-end-in-Run
+returns-in_err-end-in-Run c =
+    rw c.from_residual-in_err-end-in-Run.ensures
+    (walked (goal.at.returns-in_err-end-in-Run c).After-place_blocks None c.in_err-end-in-Run.ensures (λ i. (c.type_inv.plane i).fits))
 
-pub returns-in-Run-place_blocks : goal.returns-in-Run-place_blocks
-returns-in-Run-place_blocks c =
-    let walked : (next : Next) → let a =
-    c.args in c.place_blocks.result ≡ next
-    → SizeRead (symbols_of a.stream.now) a.w a.h a.at a.plane.now c.place_blocks.new.plane (section_of next) = λ next q. (let a = c.args in let e = c.first_run.ensures in let p = c.requires in size_walked (symbols_of a.stream.now) a.at e.0 e.1 a.plane.now p.0 p.3 p.2 next c.in-Run.is q c.place_blocks.ensures (λ i. (c.slice_known-in-Run-1.given i).fits)) in
-    walked (Run c.in-Run-place_blocks.left c.in-Run-place_blocks.at) c.in-Run-place_blocks.is
+pub returns-in-Ended-2 : goal.returns-in-Ended-2
+returns-in-Ended-2 c =
+    let n = c.in-Ended-2 in
+    walked (goal.at.returns-in-Ended-2 c).After-place_blocks (Some (Ended n.end)) (rw n.is at c.in_ok-end-in-Run.ensures) (λ i. (c.type_inv.plane i).fits)
+
+pub returns-in-Run-2 : goal.returns-in-Run-2
+returns-in-Run-2 c =
+    let n = c.in-Run-2 in
+    walked (goal.at.returns-in-Run-2 c).After-place_blocks (Some (Run n.left n.at)) (rw n.is at c.in_ok-end-in-Run.ensures) (λ i. (c.type_inv.plane i).fits)

@@ -1,30 +1,24 @@
+use mathlib.Core.Path.{◌∙◌, ap}
+use Prim.Native.Nat.{◌+◌, ◌-◌}
 use native.Mathlib.Omega.{arith}
-use Rattle.placing.proofs.RowLaws.{bytes_all, bytes_more, bytes-none}
+use mathlib.Core.List.{List}
+use Prim.Native.Nat.{ℕ}
+use lib.ListN.{get_or}
+use Rattle.placing.proofs.RowLaws.{bytes_all, bytes_more, bytes-none, last_byte}
 use Rattle.placing.proofs.store.Goals as goal
 
-pub loop-k-init : goal.loop-k-init
-loop-k-init c =
+pub loop-i-init : goal.loop-i-init
+loop-i-init c = bytes-none c.args.a c.args.n c.args.v c.args.plane.now
+
+pub loop-i-preserved : goal.loop-i-preserved
+loop-i-preserved c =
     let a = c.args in
-    bytes-none a.a a.n a.v a.plane.now
-
-pub bounds-plane-a : goal.bounds-plane-a
-bounds-plane-a c =
-    let i = c.loop-k.invariant in
-    omega (arith, i.few, i.size)
-
-pub bounds-plane-a-in-loop-k : goal.bounds-plane-a-in-loop-k
-bounds-plane-a-in-loop-k c =
-    let i = c.loop-k.invariant in
-    omega (arith, i.few, i.size)
-
-pub loop-k-preserved : goal.loop-k-preserved
-loop-k-preserved c = bytes_more c.loop-k-test.true c.requires.0 c.loop-k.invariant
-
-pub shape_of-plane : goal.shape_of-plane
-shape_of-plane c = c.loop-k.invariant.size
+    let i = c.loop-i.i in
+    let e = ap (λ (l : List ℕ). get_or l (8 - a.n + i) 0) c.to_be_bytes-bytes.ensures ∙ last_byte a.n a.v i c.requires.1 c.loop-i-test.true in
+    bytes_more _ (omega (arith, c.requires.0)) e c.loop-i.invariant
 
 pub returns : goal.returns
 returns c =
     let a = c.args in
-    let l = c.loop-k in
-    bytes_all a.a a.n a.v l.k l.rest a.plane.now l.plane (omega (arith, c.loop-k-test.false)) l.invariant
+    let l = c.loop-i in
+    bytes_all a.a a.n a.v l.i a.plane.now l.plane (omega arith) l.invariant

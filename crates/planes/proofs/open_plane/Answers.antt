@@ -9,10 +9,9 @@ dilate_plane-requires c =
     let v = c.erode_plane.new.work in
     let e = c.erode_plane.ensures in (
       c.requires.0,
-      c.requires.1,
-      rest_long a.w a.h a.r a.p a.element a.work.now v _ c.requires.0 c.requires.1 c.requires.2 c.requires.3 e refl,
-      c.requires.3,
-      rest-clean a.w a.h a.r a.p a.element a.work.now v _ c.requires.0 c.requires.1 c.requires.2 c.requires.3 e refl,
+      rest_long a.f.w a.f.h a.f.r a.q a.element a.work.now v _ c.args.f.sheet.frame c.requires.0 c.requires.1 c.requires.2 e refl,
+      c.requires.2,
+      rest-clean a.f.w a.f.h a.f.r a.q a.element a.work.now v _ c.args.f.sheet.frame c.requires.0 c.requires.1 c.requires.2 e refl,
     )
 
 pub returns : goal.returns
@@ -22,6 +21,6 @@ returns c =
     let e = c.erode_plane.ensures in
     let d = c.dilate_plane.ensures in
     record {
-      planes = open_done a.w a.h a.r a.p a.element a.work.now v _ c.requires.0 c.requires.1 c.requires.2 c.requires.3 e refl _ d.plane;
-      clipped = d.clipped ∙ open_stays a.w a.h a.r a.p a.element a.work.now v _ c.requires.0 c.requires.1 c.requires.2 c.requires.3 e refl;
+      planes = open_done a.f.w a.f.h a.f.r a.q a.element a.work.now v _ c.args.f.sheet.frame c.requires.0 c.requires.1 c.requires.2 e refl _ d.plane;
+      clipped = d.clipped ∙ open_stays a.f.w a.f.h a.f.r a.q a.element a.work.now v _ c.args.f.sheet.frame c.requires.0 c.requires.1 c.requires.2 e refl;
     }

@@ -1,14 +1,10 @@
 -- `raster::join_rows` meets its contract.
--- The invariant: to each of the first i bytes that of the source, inverted or not, is joined. The measure is the bytes left.
-use Prim.Native.Nat.{◌-◌, ◌≤◌}
+-- The invariant: to each of the first i bytes that of the source, inverted or not, is joined.
 use lib.Bits.{bit_xor}
-use lib.ListN.{get_or, length}
+use lib.ListN.{get_or}
 use Rattle.raster.specs.Rows.{join_byte}
 use Rattle.raster.proofs.LoopLaws.{Mapped}
 use Rattle.raster.proofs.join_rows.Given as goal
 
 abbrev pub invariant-loop-i : goal.invariant-loop-i
-invariant-loop-i l = (l.i ≤ length l.initial.dst) × Mapped (λ j. join_byte l.dilating (get_or l.initial.dst j 0) (bit_xor (get_or l.src j 0) l.m)) l.initial.dst l.dst l.i
-
-abbrev pub decreases-loop-i : goal.decreases-loop-i
-decreases-loop-i l = length l.initial.dst - l.i
+invariant-loop-i l = Mapped (λ j. join_byte l.fn.how.dilating (get_or l.initial.dst j 0) (bit_xor (get_or l.src j 0) l.m)) l.initial.dst l.dst l.i

@@ -1,6 +1,5 @@
 -- `refusals::bad_padding` meets its contract.
-use mathlib.Core.Bool.{not}
-use mathlib.Core.Path.{ap, refl}
+use mathlib.Core.Path.{refl}
 use native.Mathlib.Omega.{arith}
 use lib.ListN.{length}
 use Rattle.morphology.specs.Image.{plane_bytes, stride}
@@ -15,6 +14,3 @@ is_clean-requires c =
     let q = sides_of a.w a.h c.requires.0 in
     let f = fits-plane (length a.s.now) (plane_bytes a.w a.h) c.requires.1 in
     (refl, omega arith, q.wide, omega (arith, q.across))
-
-pub returns : goal.returns
-returns c = ap not c.is_clean.ensures

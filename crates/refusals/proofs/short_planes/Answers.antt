@@ -1,10 +1,7 @@
 -- `refusals::short_planes` meets its contract.
-use mathlib.Core.Path.{ap}
-use Prim.Native.Nat.{◌*◌, ◌≤◌, ℕ}
+use Prim.Native.Nat.{◌≤◌}
 use native.Mathlib.Nat.{mul-le-mul_right}
 use native.Mathlib.Omega.{arith}
-use lib.Dec.{ltb}
-use lib.ListN.{length}
 use Rattle.morphology.specs.Image.{stride}
 use Rattle.refusals.proofs.SideLaws.{plane_lt}
 use Rattle.refusals.proofs.short_planes.Goals as goal
@@ -14,6 +11,3 @@ unfolding stride
 overflow_mul-result c =
     let few : c.args.k ≤ 7 = omega (arith, c.requires) in
     omega (arith, mul-le-mul_right c.plane_bytes.result few, c.plane_bytes.ensures, plane_lt c.args.w c.args.h (omega arith) (omega arith))
-
-pub returns : goal.returns
-returns c = ap (λ (p : ℕ). ltb (length c.args.work.now) (c.args.k * p)) c.plane_bytes.ensures

@@ -6,5 +6,5 @@ use Rattle.sections.proofs.walk_plane.Goals as goal
 pub returns-then-same_rows : goal.returns-then-same_rows
 returns-then-same_rows c =
     let a = c.args in
-    same_marked a.w a.h a.q a.s.now a.down a.out.now a.at a.run
-    (same_set a.w a.h a.r a.q a.s.now c.requires.0.row (sym c.same_rows.ensures ∙ c.if-same_rows.true))
+    same_marked a.f.w a.f.h a.q a.s.now a.down a.out.now a.at a.run
+    (same_set a.f.w a.f.h a.f.r a.q a.s.now c.args.f.sheet.frame.row (sym c.same_rows.ensures ∙ c.if-same_rows.true))

@@ -1,35 +1,31 @@
-use Prim.Native.Nat.{◌-◌, ℕ}
+use Prim.Native.Nat.{◌*◌, ◌+◌, ◌-◌, ◌<◌, ◌^◌, ◌≤◌, ℕ}
+use native.Mathlib.Nat.{pow-suc, sub-zero}
 use native.Mathlib.Omega.{arith}
-use lib.Count.{count_leading_zeros}
-use Rattle.sections.proofs.WordLaws.{power_pos}
-use Rattle.seeking.proofs.BarLaws.{picking-end, picking_next, picking-none, picking-top}
+use Rattle.sections.proofs.WordLaws.{Top}
+use Rattle.seeking.proofs.BarLaws.{picking-end, picking_next, picking-none, picking-some}
 use Rattle.seeking.proofs.pick.Goals as goal
 
--- where the highest free pixel stands
-place : ℕ → ℕ
-place rest = 63 - count_leading_zeros 64 rest
+-- what `ilog2` says of its answer
+top_of : (n h : ℕ) → 2 ^ h ≤ n → n < 2 * 2 ^ h → h < 64 → Top n h
+top_of n h a b c = (c, a, omega (arith, pow-suc 2 h))
 
-pub loop-above-init : goal.loop-above-init
-loop-above-init c = picking-none c.args.free c.args.k (omega (arith, c.ranges.free)) c.requires
+pub loop-init : goal.loop-init
+loop-init c = rw sub-zero (picking-none c.args.free c.args.k c.ranges.free.fits c.requires)
 
-pub overflow_sub-rest : goal.overflow_sub-rest
-overflow_sub-rest c = (picking-top c.loop-above.invariant).0
+pub ilog2-requires : goal.ilog2-requires
+ilog2-requires c = picking-some c.loop.invariant
 
-pub nonzero_rem-rest : goal.nonzero_rem-rest
-nonzero_rem-rest c = power_pos (63 - count_leading_zeros 64 c.loop-above.rest) (omega arith)
+pub loop-preserved : goal.loop-preserved
+loop-preserved c =
+    let e = c.ilog2.ensures in
+    let t = top_of c.loop.rest c.ilog2.result e.power_le e.next_power_gt e.bound in
+    picking_next c.loop.invariant c.ilog2.result t (c.args.k - (c.loop.counter + 1)) (omega arith)
 
-pub loop-above-smaller : goal.loop-above-smaller
-loop-above-smaller c = omega (arith, c.loop-above-test.true)
-
-pub loop-above-preserved : goal.loop-above-preserved
-loop-above-preserved c =
-    let l = c.loop-above in
-    picking_next l.invariant (63 - count_leading_zeros 64 l.rest) (picking-top l.invariant).1 c.loop-above-test.true
-
-pub overflow_sub-result : goal.overflow_sub-result
-overflow_sub-result c = (picking-top c.loop-above.invariant).0
+pub ilog2-requires-2 : goal.ilog2-requires-2
+ilog2-requires-2 c = picking-some c.loop.invariant
 
 pub returns : goal.returns
 returns c =
-    let l = c.loop-above in
-    picking-end l.invariant (63 - count_leading_zeros 64 l.rest) (picking-top l.invariant).1 (omega (arith, c.loop-above-test.false))
+    let e = c.ilog2-2.ensures in
+    let t = top_of c.loop.rest c.ilog2-2.result e.power_le e.next_power_gt e.bound in
+    picking-end c.loop.invariant c.ilog2-2.result t (omega arith)

@@ -1,89 +1,76 @@
 use mathlib.Core.Path.{subst, sym}
-use Prim.Native.Nat.{◌+◌, ◌-◌, ◌<◌, ◌^◌, ℕ}
+use Prim.Native.Nat.{◌+◌, ◌-◌, ◌<◌, ℕ}
 use native.Mathlib.Omega.{arith}
+use Rattle.std.specs.Prelude.{Some}
 use Rattle.coding.specs.Symbols.{symbols_of}
 use Rattle.sections.proofs.WordLaws.{power_is}
-use Rattle.seeking.proofs.OpenWordLaws.{OpenWalk, open-ended, open-first, open-lost, open-run, open-short, open-skipped, open-small}
+use Rattle.seeking.proofs.OpenWordLaws.{OpenWalk, open-first, open-over, open-run, open-short, open-skipped, open-small}
 use Rattle.seeking.proofs.place_open.Goals as goal
+use Rattle.seeking.proofs.place_open.Goals.{After-short_runs-short}
 
-pub loop-end-init : goal.loop-end-init
-loop-end-init c =
+-- the walk over the short runs of a turn
+walked : (c : After-short_runs-short)
+    → let r = c.short_runs-short.result in
+    OpenWalk (symbols_of c.args.stream.now) c.args.limit c.args.m c.args.left c.args.at (c.loop-follows.points + r.points) r.top r.at
+walked c =
+    let r = c.short_runs-short.result in
+    let e = c.short_runs-short.ensures in
+    let w = c.loop-follows.invariant in
+    open-short w r.points r.top r.at (e.0 c.args.limit (omega (arith, c.requires.2, w.less))) e.1 e.2
+
+pub loop-follows-init : goal.loop-follows-init
+loop-follows-init c =
     let a = c.args in
     let h = a.m - a.left - 1 in
     subst (λ (x : ℕ). OpenWalk (symbols_of a.stream.now) a.limit a.m a.left a.at x h a.at) (sym (power_is h (omega arith)))
     (open-first (symbols_of a.stream.now) a.limit a.m a.left a.at c.requires.0)
 
 pub short_runs-short-requires : goal.short_runs-short-requires
-short_runs-short-requires c = (omega arith, omega (arith, c.loop-end.invariant.near))
+short_runs-short-requires c = (omega arith, omega (arith, c.loop-follows.invariant.near))
 
 pub overflow_add-points : goal.overflow_add-points
-overflow_add-points c =
-    let short : let a =
-    c.args in OpenWalk (symbols_of a.stream.now) a.limit a.m a.left a.at (c.loop-end.points + c.short_runs-short.result.points) c.short_runs-short.result.top c.short_runs-short.result.at = (let r = c.short_runs-short.result in let e = c.short_runs-short.ensures in let l = c.loop-end in let o = e.0 c.args.limit (omega (arith, c.requires.2, l.invariant.less)) in open-short l.invariant r.points r.top r.at o e.1 e.2) in
-    omega (arith, open-small short c.requires.1)
+overflow_add-points c = omega (arith, open-small (walked (goal.at.overflow_add-points c).After-short_runs-short) c.requires.1)
 
-pub next_run-requires : goal.next_run-requires
-next_run-requires c =
-    let short : let a =
-    c.args in OpenWalk (symbols_of a.stream.now) a.limit a.m a.left a.at (c.loop-end.points + c.short_runs-short.result.points) c.short_runs-short.result.top c.short_runs-short.result.at = (let r = c.short_runs-short.result in let e = c.short_runs-short.ensures in let l = c.loop-end in let o = e.0 c.args.limit (omega (arith, c.requires.2, l.invariant.less)) in open-short l.invariant r.points r.top r.at o e.1 e.2) in
-    (omega (arith, short.near), c.requires.3)
+pub next_run-next-requires : goal.next_run-next-requires
+next_run-next-requires c =
+    let w = walked (goal.at.next_run-next-requires c).After-short_runs-short in
+    (omega (arith, w.near), c.requires.3)
 
-pub returns-in-Lost : goal.returns-in-Lost
-returns-in-Lost c =
-    let short : let a =
-    c.args in OpenWalk (symbols_of a.stream.now) a.limit a.m a.left a.at (c.loop-end.points + c.short_runs-short.result.points) c.short_runs-short.result.top c.short_runs-short.result.at = (let r = c.short_runs-short.result in let e = c.short_runs-short.ensures in let l = c.loop-end in let o = e.0 c.args.limit (omega (arith, c.requires.2, l.invariant.less)) in open-short l.invariant r.points r.top r.at o e.1 e.2) in
-    open-lost short c.in-Lost.ensures
+pub returns-in_default : goal.returns-in_default
+returns-in_default c =
+    let n = c.next_run-next in
+    open-over (walked (goal.at.returns-in_default c).After-short_runs-short) n.result (rw c.in_default.is tt) n.ensures
 
-pub returns-in-Ended : goal.returns-in-Ended
-returns-in-Ended c =
-    let short : let a =
-    c.args in OpenWalk (symbols_of a.stream.now) a.limit a.m a.left a.at (c.loop-end.points + c.short_runs-short.result.points) c.short_runs-short.result.top c.short_runs-short.result.at = (let r = c.short_runs-short.result in let e = c.short_runs-short.ensures in let l = c.loop-end in let o = e.0 c.args.limit (omega (arith, c.requires.2, l.invariant.less)) in open-short l.invariant r.points r.top r.at o e.1 e.2) in
-    open-ended short c.in-Ended.end c.in-Ended.ensures
+pub returns-in_default-follows : goal.returns-in_default-follows
+returns-in_default-follows c =
+    let n = c.in-Some in
+    open-over (walked (goal.at.returns-in_default-follows c).After-short_runs-short) (Some n.follows) (rw c.in_default-follows.is tt) n.ensures
 
 pub returns-then-left-short : goal.returns-then-left-short
 returns-then-left-short c =
-    let short : let a =
-    c.args in OpenWalk (symbols_of a.stream.now) a.limit a.m a.left a.at (c.loop-end.points + c.short_runs-short.result.points) c.short_runs-short.result.top c.short_runs-short.result.at = (let r = c.short_runs-short.result in let e = c.short_runs-short.ensures in let l = c.loop-end in let o = e.0 c.args.limit (omega (arith, c.requires.2, l.invariant.less)) in open-short l.invariant r.points r.top r.at o e.1 e.2) in
-    open-skipped short c.in-Run.left c.in-Run.at c.in-Run.ensures c.if-left-short.true
+    let r = c.in-Run in
+    let w = walked (goal.at.returns-then-left-short c).After-short_runs-short in
+    open-skipped w r.left r.at (rw r.is at c.in-Some.ensures) c.if-left-short.true
 
-pub overflow_cast-points-in-Run : goal.overflow_cast-points-in-Run
-overflow_cast-points-in-Run c =
-    let short : let a =
-    c.args in OpenWalk (symbols_of a.stream.now) a.limit a.m a.left a.at (c.loop-end.points + c.short_runs-short.result.points) c.short_runs-short.result.top c.short_runs-short.result.at = (let r = c.short_runs-short.result in let e = c.short_runs-short.ensures in let l = c.loop-end in let o = e.0 c.args.limit (omega (arith, c.requires.2, l.invariant.less)) in open-short l.invariant r.points r.top r.at o e.1 e.2) in
-    let point : let a =
-    c.args in OpenWalk (symbols_of a.stream.now) a.limit a.m a.left a.at (c.loop-end.points + c.short_runs-short.result.points + 2 ^ (c.short_runs-short.result.top - c.in-Run.left - 1)) (c.short_runs-short.result.top - c.in-Run.left - 1) c.in-Run.at = open-run short c.in-Run.left c.in-Run.at c.in-Run.ensures c.if-left-short.false in
-    let height : (c.short_runs-short.result.top - c.in-Run.left - 1) < 64 = omega (arith, point.less, c.requires.1) in
-    omega (arith, height)
+pub overflow_shl-points-in-loop-follows : goal.overflow_shl-points-in-loop-follows
+overflow_shl-points-in-loop-follows c = omega (arith, (walked (goal.at.overflow_shl-points-in-loop-follows c).After-short_runs-short).less, c.requires.1)
 
-pub overflow_shl-points-in-Run : goal.overflow_shl-points-in-Run
-overflow_shl-points-in-Run c =
-    let short : let a =
-    c.args in OpenWalk (symbols_of a.stream.now) a.limit a.m a.left a.at (c.loop-end.points + c.short_runs-short.result.points) c.short_runs-short.result.top c.short_runs-short.result.at = (let r = c.short_runs-short.result in let e = c.short_runs-short.ensures in let l = c.loop-end in let o = e.0 c.args.limit (omega (arith, c.requires.2, l.invariant.less)) in open-short l.invariant r.points r.top r.at o e.1 e.2) in
-    let point : let a =
-    c.args in OpenWalk (symbols_of a.stream.now) a.limit a.m a.left a.at (c.loop-end.points + c.short_runs-short.result.points + 2 ^ (c.short_runs-short.result.top - c.in-Run.left - 1)) (c.short_runs-short.result.top - c.in-Run.left - 1) c.in-Run.at = open-run short c.in-Run.left c.in-Run.at c.in-Run.ensures c.if-left-short.false in
-    let height : (c.short_runs-short.result.top - c.in-Run.left - 1) < 64 = omega (arith, point.less, c.requires.1) in
-    height
+pub overflow_add-points-in-loop-follows : goal.overflow_add-points-in-loop-follows
+overflow_add-points-in-loop-follows c =
+    let r = c.in-Run in
+    let w = walked (goal.at.overflow_add-points-in-loop-follows c).After-short_runs-short in
+    omega (arith, open-small (open-run w r.left r.at (rw r.is at c.in-Some.ensures) c.if-left-short.false) c.requires.1)
 
-pub overflow_add-points-in-Run : goal.overflow_add-points-in-Run
-overflow_add-points-in-Run c =
-    let short : let a =
-    c.args in OpenWalk (symbols_of a.stream.now) a.limit a.m a.left a.at (c.loop-end.points + c.short_runs-short.result.points) c.short_runs-short.result.top c.short_runs-short.result.at = (let r = c.short_runs-short.result in let e = c.short_runs-short.ensures in let l = c.loop-end in let o = e.0 c.args.limit (omega (arith, c.requires.2, l.invariant.less)) in open-short l.invariant r.points r.top r.at o e.1 e.2) in
-    let point : let a =
-    c.args in OpenWalk (symbols_of a.stream.now) a.limit a.m a.left a.at (c.loop-end.points + c.short_runs-short.result.points + 2 ^ (c.short_runs-short.result.top - c.in-Run.left - 1)) (c.short_runs-short.result.top - c.in-Run.left - 1) c.in-Run.at = open-run short c.in-Run.left c.in-Run.at c.in-Run.ensures c.if-left-short.false in
-    omega (arith, open-small point c.requires.1)
+pub loop-follows-smaller : goal.loop-follows-smaller
+loop-follows-smaller c = omega (arith, c.if-left-short.false, c.short_runs-short.ensures.2)
 
-pub loop-end-smaller : goal.loop-end-smaller
-loop-end-smaller c = omega (arith, c.if-left-short.false, c.short_runs-short.ensures.2)
-
-pub loop-end-preserved : goal.loop-end-preserved
-loop-end-preserved c =
-    let short : let a =
-    c.args in OpenWalk (symbols_of a.stream.now) a.limit a.m a.left a.at (c.loop-end.points + c.short_runs-short.result.points) c.short_runs-short.result.top c.short_runs-short.result.at = (let r = c.short_runs-short.result in let e = c.short_runs-short.ensures in let l = c.loop-end in let o = e.0 c.args.limit (omega (arith, c.requires.2, l.invariant.less)) in open-short l.invariant r.points r.top r.at o e.1 e.2) in
-    let point : let a =
-    c.args in OpenWalk (symbols_of a.stream.now) a.limit a.m a.left a.at (c.loop-end.points + c.short_runs-short.result.points + 2 ^ (c.short_runs-short.result.top - c.in-Run.left - 1)) (c.short_runs-short.result.top - c.in-Run.left - 1) c.in-Run.at = open-run short c.in-Run.left c.in-Run.at c.in-Run.ensures c.if-left-short.false in
-    let height : (c.short_runs-short.result.top - c.in-Run.left - 1) < 64 = omega (arith, point.less, c.requires.1) in
+pub loop-follows-preserved : goal.loop-follows-preserved
+loop-follows-preserved c =
     let a = c.args in
-    let v = c.loop-end.points + c.short_runs-short.result.points in
-    subst
-    (λ (x : ℕ). OpenWalk (symbols_of a.stream.now) a.limit a.m a.left a.at (v + x) (c.short_runs-short.result.top - c.in-Run.left - 1) c.in-Run.at)
-    (sym (power_is (c.short_runs-short.result.top - c.in-Run.left - 1) height)) point
+    let r = c.in-Run in
+    let w = walked (goal.at.loop-follows-preserved c).After-short_runs-short in
+    let v = c.loop-follows.points + c.short_runs-short.result.points in
+    let h = c.short_runs-short.result.top - r.left - 1 in
+    let low : h < 64 = omega (arith, w.less, c.requires.1) in
+    subst (λ (x : ℕ). OpenWalk (symbols_of a.stream.now) a.limit a.m a.left a.at (v + x) h r.at) (sym (power_is h low))
+    (open-run w r.left r.at (rw r.is at c.in-Some.ensures) c.if-left-short.false)

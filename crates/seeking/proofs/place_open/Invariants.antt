@@ -4,8 +4,8 @@ use Rattle.coding.specs.Symbols.{symbols_of}
 use Rattle.seeking.proofs.OpenWordLaws.{OpenWalk}
 use Rattle.seeking.proofs.place_open.Given as goal
 
-abbrev pub invariant-loop-end : goal.invariant-loop-end
-invariant-loop-end l = OpenWalk (symbols_of l.stream) l.limit l.m l.left l.at l.points l.top l.j
+abbrev pub invariant-loop-follows : goal.invariant-loop-follows
+invariant-loop-follows l = OpenWalk (symbols_of l.stream) l.limit l.m l.left l.at l.points l.top l.j
 
-abbrev pub decreases-loop-end : goal.decreases-loop-end
-decreases-loop-end l = l.top
+abbrev pub decreases-loop-follows : goal.decreases-loop-follows
+decreases-loop-follows l = l.top

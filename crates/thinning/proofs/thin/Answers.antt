@@ -1,42 +1,50 @@
 -- `thinning::thin`: what the passes leave is the outcome, and work is cleared.
-use mathlib.Core.Path.{◌∙◌, sym}
+use mathlib.Core.Path.{◌∙◌, ◌≡◌, sym}
 use native.Mathlib.Omega.{arith}
-use Rattle.iteration.proofs.StepLaws.{frame-sheet, sheet-bytes, sheet-small}
+use Rattle.morphology.specs.Image.{plane_bytes}
+use Rattle.morphology.specs.Operations.{thin}
+use Rattle.refusals.proofs.RowLaws.{call_refused}
+use Rattle.iteration.proofs.StepLaws.{sheet-bytes, sheet-small}
+use Rattle.thinning.specs.Thinned.{done}
 use Rattle.thinning.proofs.CallLaws.{thin_ready}
 use Rattle.thinning.proofs.EndLaws.{thin_done}
-use Rattle.thinning.proofs.ThinTurns.{thin-refused}
 use Rattle.thinning.proofs.thin.Goals as goal
 
-pub returns-then-refuses : goal.returns-then-refuses
-returns-then-refuses c =
-    let a = c.args in
-    thin-refused a.w a.h a.image.now a.work.now _ c.thin_refusal-row.ensures (omega (arith, c.if-refuses.true))
+pub returns-in_err-thin_refusal : goal.returns-in_err-thin_refusal
+unfolding thin
+returns-in_err-thin_refusal c = call_refused done _ _ _ _ _ c.from_residual.ensures.1 c.in_err-thin_refusal.ensures
 
-pub overflow_mul-p : goal.overflow_mul-p
-overflow_mul-p c =
+pub new-f-requires : goal.new-f-requires
+new-f-requires c =
     let a = c.args in
-    let d = thin_ready a.w a.h a.image.now a.work.now c.thin_refusal-row.ensures (omega (arith, c.if-refuses.false)) in
-    omega (arith, sheet-small (frame-sheet d.frame))
+    (thin_ready a.w a.h a.image.now a.work.now c.in_ok-thin_refusal.ensures).frame
 
-pub thin_passes-tally-requires : goal.thin_passes-tally-requires
-thin_passes-tally-requires c =
+pub thin_passes-done-requires : goal.thin_passes-done-requires
+thin_passes-done-requires c =
     let a = c.args in
-    let d = thin_ready a.w a.h a.image.now a.work.now c.thin_refusal-row.ensures (omega (arith, c.if-refuses.false)) in
-    let k = frame-sheet d.frame in
-    let q = sheet-bytes k in
-    (k, d.image ∙ sym q, omega (arith, d.work, q), d.clean)
+    let d = thin_ready a.w a.h a.image.now a.work.now c.in_ok-thin_refusal.ensures in
+    let e = c.new-f.ensures in
+    let f = c.new-f.result in
+    let b : f.p ≡ plane_bytes f.w f.h = sheet-bytes f.sheet in
+    let q = rw (e.0, e.1) at b in
+    (d.image ∙ sym q, omega (arith, d.work, q), rw (e.0, e.1) d.clean)
 
 pub clear_work-requires : goal.clear_work-requires
 clear_work-requires c =
     let a = c.args in
-    let d = thin_ready a.w a.h a.image.now a.work.now c.thin_refusal-row.ensures (omega (arith, c.if-refuses.false)) in
-    let k = frame-sheet d.frame in
-    (omega (arith, d.work, sheet-bytes k, c.thin_passes-tally.ensures.size), omega (arith, sheet-small k))
+    let d = thin_ready a.w a.h a.image.now a.work.now c.in_ok-thin_refusal.ensures in
+    let e = c.new-f.ensures in
+    let f = c.new-f.result in
+    let b : f.p ≡ plane_bytes f.w f.h = sheet-bytes f.sheet in
+    let q = rw (e.0, e.1) at b in
+    (omega (arith, d.work, q, c.thin_passes-done.ensures.size), omega (arith, sheet-small c.new-f.result.sheet))
 
 pub returns : goal.returns
 returns c =
     let a = c.args in
-    let e = c.thin_refusal-row.ensures in
-    let d = thin_ready a.w a.h a.image.now a.work.now e (omega (arith, c.if-refuses.false)) in
-    thin_done a.w a.h _ a.image.now a.work.now _ _ _ _ _ _ (sym e ∙ omega (arith, c.if-refuses.false)) (sheet-bytes (frame-sheet d.frame))
-    c.thin_passes-tally.ensures c.clear_work.ensures
+    let e = c.new-f.ensures in
+    let f = c.new-f.result in
+    let b : f.p ≡ plane_bytes f.w f.h = sheet-bytes f.sheet in
+    let q = rw (e.0, e.1) at b in
+    thin_done a.w a.h _ a.image.now a.work.now _ _ _ _ _ _ (sym c.in_ok-thin_refusal.ensures) q
+    (rw (e.0, e.1) at c.thin_passes-done.ensures) c.clear_work.ensures

@@ -1,4 +1,3 @@
-use mathlib.Core.Path.{◌∙◌}
 use Prim.Native.Nat.{◌+◌}
 use native.Mathlib.Omega.{arith}
 use Rattle.listing.proofs.AppendLaws.{appended-none, appended_then, room_less, room_next}
@@ -8,31 +7,25 @@ use Rattle.listing.proofs.text.put_row.Goals as goal
 pub loop-i-init : goal.loop-i-init
 loop-i-init c =
     let a = c.args in
-    (omega arith, spaced-none (words a.row.now) (appended-none a.at a.out.now))
-
-pub overflow_cast-row : goal.overflow_cast-row
-overflow_cast-row c = omega (arith, c.shared_slice_known-in-loop-i-1.given c.loop-i.i)
+    spaced-none (words a.row.now) (appended-none a.at a.out.now)
 
 pub put_word-next-requires : goal.put_word-next-requires
 put_word-next-requires c =
     let l = c.loop-i in
     let row = c.args.row.now in
-    room_next _ _ (line_more row l.i (omega arith)) (room_less (line_le row (l.i + 1)) c.requires) l.invariant.1
+    room_next _ _ (line_more row l.i (omega arith)) (room_less (line_le row (l.i + 1)) c.requires) l.invariant
 
 pub loop-i-preserved : goal.loop-i-preserved
 loop-i-preserved c =
     let l = c.loop-i in
-    (omega arith, appended_then _ _ (line_more c.args.row.now l.i (omega arith)) l.invariant.1 c.put_word-next.ensures)
+    appended_then _ _ (line_more c.args.row.now l.i (omega arith)) l.invariant c.put_word-next.ensures
 
 pub put-requires : goal.put-requires
 put-requires c =
     let l = c.loop-i in
-    room_next _ _ (line-end c.args.row.now l.i (omega arith)) c.requires l.invariant.1
-
-pub shape_of-out : goal.shape_of-out
-shape_of-out c = c.put.ensures.size ∙ c.loop-i.invariant.1.size
+    room_next _ _ (line-end c.args.row.now l.i (omega arith)) c.requires l.invariant
 
 pub returns : goal.returns
 returns c =
     let l = c.loop-i in
-    appended_then _ _ (line-end c.args.row.now l.i (omega arith)) l.invariant.1 c.put.ensures
+    appended_then _ _ (line-end c.args.row.now l.i (omega arith)) l.invariant c.put.ensures

@@ -1,15 +1,16 @@
 -- `minimal::sizes::count_size` meets its contract.
--- The invariant: the covers of the points of size n before place i are counted. The measure is what is left of the labels.
-use mathlib.Core.Path.{◌≡◌}
-use Prim.Native.Nat.{◌+◌, ◌-◌, ◌≤◌}
-use lib.ListN.{length}
+-- The invariant: i has a point of size n, and the covers of those before it are counted. The measure is what is left of the labels.
+use Rattle.std.proofs.Common.{◌+◌, ◌-◌, ◌<◌, ◌≡◌, ◌≤◌, get_or, length}
 use Rattle.morphology.specs.Element.{offsets}
-use Rattle.minimal.specs.Bands.{InBand}
 use Rattle.minimal.specs.Sizes.{Counting}
 use Rattle.minimal.proofs.sizes.count_size.Given as goal
 
 abbrev pub invariant-loop-i : goal.invariant-loop-i
-invariant-loop-i l = (l.v ≡ l.n + 1) × (l.i ≤ length l.labels) × InBand l.w l.h l.r l.band l.plane × Counting l.w l.h (offsets l.element) l.labels l.n l.i l.counters
+invariant-loop-i l = record {
+  within : l.i ≤ length l.labels;
+  label : l.i < length l.labels → get_or l.labels l.i 0 ≡ l.n + 1;
+  counted : Counting l.fn.f.w l.fn.f.h (offsets l.element) l.labels l.n l.i l.counters;
+}
 
 abbrev pub decreases-loop-i : goal.decreases-loop-i
 decreases-loop-i l = length l.labels - l.i

@@ -1,28 +1,39 @@
-use mathlib.Core.Path.{◌∙◌, ap, refl}
-use Prim.Native.Nat.{◌+◌, ℕ}
-use native.Mathlib.Omega.{arith}
+use Rattle.std.proofs.Common.{◌≡◌, refl, arith, ap, drop, length, length-drop, take, ◌*◌, ◌+◌, ◌/◌}
+use lib.Seq.{length-take-le}
+use Rattle.std.specs.Int.Count.{ones}
 use Rattle.morphology.specs.Image.{ones_of}
-use Rattle.raster.proofs.CountLaws.{gathered_byte, gathered_more, ones-whole}
+use Rattle.raster.proofs.CountLaws.{chunk-at, ones_more, ones_next, ones-whole, ones-word}
+use Rattle.raster.proofs.PartLaws.{part_bytes}
 use Rattle.raster.proofs.counts.count_few.Goals as goal
 
-pub loop-i-init : goal.loop-i-init
+pub loop-w-init : goal.loop-w-init
 unfolding ones_of
-loop-i-init c = (omega arith, refl, refl, omega arith)
+loop-w-init c = (refl, omega arith)
 
-pub loop-i-preserved : goal.loop-i-preserved
-loop-i-preserved c =
-    let l = c.loop-i in
-    (omega arith, omega arith, ap (λ (m : ℕ). l.n + m) c.count_word-n.ensures.0 ∙ gathered_more c.word.ensures l.invariant.2, omega arith)
+pub loop-w-preserved : goal.loop-w-preserved
+loop-w-preserved c =
+    let k = c.loop-w.w-index in
+    let s = c.args.s.now in
+    let e : 8 * (k + 1) ≡ 8 * k + 8 = omega arith in
+    let w = chunk-at 8 (length s / 8) k s (omega arith) in
+    let h = ones-word (take 8 (drop (8 * k) s)) (length-take-le 8 (drop (8 * k) s) (omega (arith, length-drop (8 * k) s))) (part_bytes (8 * k) 8 s (λ j. omega (arith, c.type_inv.s j)) (omega arith)) in
+    let m = ones_more s (8 * k) 8 in
+    (cc, omega arith)
 
-pub loop-i-2-preserved : goal.loop-i-2-preserved
-loop-i-2-preserved c =
-    let l = c.loop-i-2 in
-    let b = c.wide.ensures in
-    let g = gathered_byte {l = c.args.s.now} {i = l.i} (omega arith) b.0 b.1 in
-    (omega arith, ap (λ (m : ℕ). l.n + m) c.count_word-n-in-loop-i-2.ensures.0 ∙ gathered_more g l.invariant.1, omega arith)
+pub loop-b-init : goal.loop-b-init
+unfolding ones_of
+loop-b-init c =
+    let e : 8 * c.loop-w.w-index ≡ length c.args.s.now / 8 * 8 = omega arith in
+    (omega (arith, ap (λ n. ones_of (take n c.args.s.now)) e), omega arith)
+
+pub loop-b-preserved : goal.loop-b-preserved
+loop-b-preserved c =
+    let m = ones_next c.as_chunks.result.1.now c.loop-b.b-index c.loop-b-test.true in
+    (omega (arith, m, ap ones c.from.ensures), omega arith)
 
 pub returns : goal.returns
 returns c =
-    let l = c.loop-i-2 in
     let s = c.args.s.now in
-    (l.invariant.1 ∙ ones-whole s l.i (omega arith), omega arith)
+    let m = ones_more s (length s / 8 * 8) c.loop-b.b-index in
+    let a = ones-whole s (length s / 8 * 8 + c.loop-b.b-index) (omega arith) in
+    (cc, omega arith)

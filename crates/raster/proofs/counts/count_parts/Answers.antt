@@ -1,36 +1,24 @@
-use mathlib.Core.Path.{◌∙◌, ◌≡◌, ap, ap₂, refl, sym}
-use Prim.Native.Nat.{◌%◌, ◌+◌, ◌/◌, ◌<◌, ◌≤◌, ℕ}
+use mathlib.Core.Path.{◌≡◌, refl}
+use Prim.Native.Nat.{◌*◌, ◌+◌}
 use native.Mathlib.Omega.{arith}
 use Rattle.morphology.specs.Image.{ones_of}
 use Rattle.raster.specs.Counts.{ones_apart}
 use Rattle.raster.proofs.CountLaws.{apart_more, apart-whole}
 use Rattle.raster.proofs.counts.count_parts.Goals as goal
 
--- a word more is within the part
-next : (i p : ℕ) → i % 8 ≡ 0 → p % 8 ≡ 0 → i < p → i + 8 ≤ p
-next i p a b h =
-    let q : i / 8 < p / 8 = omega arith in
-    omega arith
-
-pub loop-i-init : goal.loop-i-init
+pub loop-k-init : goal.loop-k-init
 unfolding ones_apart ones_of
-loop-i-init c = (omega arith, refl, refl, omega arith)
+loop-k-init c = (refl, omega arith)
 
-pub count_apart-n-requires : goal.count_apart-n-requires
-count_apart-n-requires c =
-    let l = c.loop-i in
-    omega (arith, next l.i c.args.p l.invariant.1 c.requires.0 (omega arith))
-
-pub loop-i-preserved : goal.loop-i-preserved
-loop-i-preserved c =
-    let l = c.loop-i in
-    let a = c.args in
-    let e = next l.i a.p l.invariant.1 c.requires.0 (omega arith) in
-    (e, omega arith, ap₂ ◌+◌ l.invariant.2 c.count_apart-n.ensures.0 ∙ sym (apart_more a.s.now a.p l.i 8 7), omega arith)
+pub loop-k-preserved : goal.loop-k-preserved
+loop-k-preserved c =
+    let k = c.loop-k.k in
+    let e : 8 * (k + 1) ≡ 8 * k + 8 = omega arith in
+    let m = apart_more c.args.s.now c.args.p (8 * k) 8 7 in
+    (cc, omega arith)
 
 pub returns : goal.returns
 returns c =
-    let l = c.loop-i in
-    let a = c.args in
-    let e : l.i ≡ a.p = omega arith in
-    (l.invariant.2 ∙ ap (λ (i : ℕ). ones_apart a.s.now a.p i 0 7) e ∙ apart-whole a.s.now a.p 0 7, omega arith)
+    let e : 8 * c.loop-k.k ≡ c.args.p = omega arith in
+    let m = apart-whole c.args.s.now c.args.p 0 7 in
+    (cc, omega arith)

@@ -3,13 +3,8 @@ use mathlib.Core.Path.{◌∙◌, ap, sym}
 use Prim.Native.Nat.{◌-◌, ◌<◌}
 use native.Mathlib.Omega.{arith}
 use lib.Count.{ones}
-use Rattle.sections.proofs.WordLaws.{ones-reach, reach_pos}
+use Rattle.sections.proofs.WordLaws.{ones-reach}
 use Rattle.sections.proofs.words.count_free.Goals as goal
-
-pub overflow_sub-d-4 : goal.overflow_sub-d-4
-overflow_sub-d-4 c =
-    let before-lt : let a = c.args in a.top - a.h - 1 < 64 = omega (arith, c.requires.1) in
-    reach_pos (c.args.top - c.args.h - 1) before-lt
 
 pub returns-then-gap-d : goal.returns-then-gap-d
 returns-then-gap-d c =

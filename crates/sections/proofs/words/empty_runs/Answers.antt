@@ -1,52 +1,36 @@
-use mathlib.Core.Bool.{true}
-use mathlib.Core.Path.{ap, ◌≡◌}
+use mathlib.Core.List.{List}
+use mathlib.Core.Path.{◌≡◌, subst, sym}
+use Prim.Native.Nat.{◌*◌, ◌+◌, ℕ}
 use native.Mathlib.Omega.{arith}
-use borrow.Author.Tests.{not-false, not-true}
-use Rattle.sections.proofs.PenLaws.{emptied_done, emptied_more, emptied-none, emptied-room, empty-comma, length-empty, up-empty}
-use mathlib.Core.Bool.{not}
+use lib.ListN.{replicate}
+use Rattle.sections.specs.Pens.{Marked}
+use Rattle.sections.proofs.PenLaws.{emptied_more, emptied-none, emptied-room, empty-comma, up-empty}
 use Rattle.sections.proofs.words.empty_runs.Goals as goal
+use Rattle.sections.proofs.words.empty_runs.Goals.{then-down+else-loop-k-test, else-down}
 
-pub overflow_add-end : goal.overflow_add-end
-overflow_add-end c = omega (arith, c.requires.small, length-empty c.args.n)
-
-pub returns-then-not-down : goal.returns-then-not-down
-returns-then-not-down c =
-    let a = c.args in
-    up-empty a.down a.n a.out.now a.at (not-true a.down (ap not c.if-not-down.true))
-
-pub loop-j-init : goal.loop-j-init
-loop-j-init c =
-    let a = c.args in
-    emptied-none a.down a.n a.out.now a.at
+pub loop-k-init : goal.loop-k-init
+loop-k-init c = emptied-none c.args.down c.args.out.now c.args.at
 
 pub put-requires : goal.put-requires
 put-requires c =
-    let is_down : c.args.down ≡ true = not-false c.args.down (ap not c.if-not-down.false) in
     let a = c.args in
-    let l = c.loop-j in
-    let room = emptied-room a.down a.n a.out.now l.out a.at l.j l.invariant c.loop-j-test.true c.requires in
-    let q = empty-comma is_down room in
+    let l = c.loop-k in
+    let q = empty-comma c.if-down.true (emptied-room a.down a.n l.k a.out.now l.out a.at c.loop-k-test.true c.requires l.invariant) in
     (q.0, omega arith, q.1)
 
-pub overflow_add-j : goal.overflow_add-j
-overflow_add-j c = omega (arith, c.requires.small, length-empty c.args.n, c.loop-j-test.true)
-
-pub loop-j-smaller : goal.loop-j-smaller
-loop-j-smaller c = omega (arith, c.loop-j-test.true)
-
-pub loop-j-preserved : goal.loop-j-preserved
-loop-j-preserved c =
-    let is_down : c.args.down ≡ true = not-false c.args.down (ap not c.if-not-down.false) in
+pub loop-k-preserved : goal.loop-k-preserved
+loop-k-preserved c =
     let a = c.args in
-    let l = c.loop-j in
-    let p = c.put in
-    emptied_more a.down a.n a.out.now l.out a.at l.j l.invariant p.new.stream is_down c.loop-j-test.true c.requires p.ensures
-
-pub shape_of-out : goal.shape_of-out
-shape_of-out c = c.loop-j.invariant.marked.size
+    let l = c.loop-k in
+    emptied_more a.down a.n l.k a.out.now l.out a.at c.loop-k-test.true c.requires l.invariant c.put.new.stream c.if-down.true c.put.ensures
 
 pub returns : goal.returns
 returns c =
     let a = c.args in
-    let l = c.loop-j in
-    emptied_done a.down a.n a.out.now l.out a.at l.j l.invariant c.loop-j-test.false
+    let R = λ (k : ℕ) (new : List ℕ). Marked a.down (replicate k 0) a.out.now new a.at (a.at + 2 * k) in
+    elim c.if-down.branch [
+      | then-down+else-loop-k-test w ↦
+          let e : w.loop-k.k ≡ a.n = omega arith in
+          subst (R a.n) (sym w.out-is) (subst (λ (k : ℕ). R k w.loop-k.out) e w.loop-k.invariant)
+      | else-down w ↦ subst (R a.n) (sym w.out-is) (up-empty a.down a.n a.out.now a.at w.if-down.false)
+    ]

@@ -1,10 +1,8 @@
--- `sections::words::empty_runs` meets its contract. Down, the runs before j are written; what is left to end falls.
-use Prim.Native.Nat.{◌-◌}
-use Rattle.sections.proofs.PenLaws.{EmptyMarked}
+-- `sections::words::empty_runs` meets its contract. Down, the first k runs are written.
+use Prim.Native.Nat.{◌*◌, ◌+◌}
+use lib.ListN.{replicate}
+use Rattle.sections.specs.Pens.{Marked}
 use Rattle.sections.proofs.words.empty_runs.Given as goal
 
-abbrev pub invariant-loop-j : goal.invariant-loop-j
-invariant-loop-j l = EmptyMarked l.down l.n l.initial.out l.out l.at l.j
-
-abbrev pub decreases-loop-j : goal.decreases-loop-j
-decreases-loop-j l = l.end - l.j
+abbrev pub invariant-loop-k : goal.invariant-loop-k
+invariant-loop-k l = Marked l.down (replicate l.k 0) l.initial.out l.out l.at (l.at + 2 * l.k)

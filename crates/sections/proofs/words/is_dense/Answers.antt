@@ -3,11 +3,5 @@ use native.Mathlib.Omega.{arith}
 use Rattle.sections.proofs.DenseLaws.{dense_test}
 use Rattle.sections.proofs.words.is_dense.Goals as goal
 
-pub returns-then-mask-ne0 : goal.returns-then-mask-ne0
-returns-then-mask-ne0 c = λ t. absurd t
-
-pub returns-then-down : goal.returns-then-down
-returns-then-down c = λ t. absurd t
-
 pub returns : goal.returns
 returns c = λ t. (c.if-down.false, omega (arith, c.if-mask-ne0.false), dense_test c.args.ink t)
