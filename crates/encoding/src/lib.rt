@@ -19,6 +19,7 @@ ghost use Rattle.encoding.specs.Sizes.{lacking_runs, open_runs, ink_runs, symbol
 
 use raster::Frame;
 use refusals::Refusal;
+use sections::{Measure, Pen, Write};
 
 // The stream of an image that is not empty: its bytes, and the largest size.
 #[derive(Clone, Copy, Debug, PartialEq, Eq)]
@@ -28,8 +29,7 @@ pub struct Stream {
 }
 
 // One size: the runs of the first plane that its opening lacks, after `before` pixels, measured or written, and the plane eroded. Answers where the pen stands.
-fn turn(
-    down: bool,
+fn turn<P: Pen>(
     f: Frame,
     q: usize,
     element: u32,
@@ -39,19 +39,18 @@ fn turn(
     work: &mut [u8],
 ) -> usize
     requires { SizeStart f.w f.h f.r q element work.old × (before + f.w * f.h < 2 ^ 24)
-        × PenRoom down out.old at (lacking_runs f.w f.h (offsets element) before work.old) }
-    ensures { SizeTurned down f.w f.h q (offsets element) before work.old work.new out.old out.new at result }
+        × PenRoom P.down out.old at (lacking_runs f.w f.h (offsets element) before work.old) }
+    ensures { SizeTurned P.down f.w f.h q (offsets element) before work.old work.new out.old out.new at result }
 {
     let Frame { h, r, .. } = f;
     planes::open_plane(f, q, element, work);
-    let end = sections::walk_plane(down, f, q + q, &work[..], at, before, out);
+    let end = sections::walk_plane::<P>(f, q + q, &work[..], at, before, out);
     work.copy_within(q..q + h * r, 0);
     end
 }
 
 // One size on the rows from..to alone, outside of which the first plane is empty.
-fn turn_band(
-    down: bool,
+fn turn_band<P: Pen>(
     f: Frame,
     from: usize,
     to: usize,
@@ -61,8 +60,8 @@ fn turn_band(
     work: &mut [u8],
 ) -> usize
     requires { SizeStart f.w f.h f.r (f.h * f.r) element work.old × Banded f.h f.r from to (take (f.h * f.r) work.old)
-        × PenRoom down out.old at (open_runs f.w f.h (offsets element) work.old) }
-    ensures { SizeStepped down f.w f.h (f.h * f.r) (offsets element) work.old work.new out.old out.new at result }
+        × PenRoom P.down out.old at (open_runs f.w f.h (offsets element) work.old) }
+    ensures { SizeStepped P.down f.w f.h (f.h * f.r) (offsets element) work.old work.new out.old out.new at result }
 {
     let Frame { w, h, r, .. } = f;
     let before = (from * w) as u32;
@@ -73,35 +72,19 @@ fn turn_band(
         r,
         p: rows * r,
     };
-    turn(
-        down,
-        band,
-        h * r,
-        element,
-        before,
-        at,
-        out,
-        &mut work[from * r..],
-    )
+    turn::<P>(band, h * r, element, before, at, out, &mut work[from * r..])
 }
 
 // One size on the rows that hold ink.
-fn take_size(
-    down: bool,
-    f: Frame,
-    element: u32,
-    at: usize,
-    out: &mut [u8],
-    work: &mut [u8],
-) -> usize
+fn take_size<P: Pen>(f: Frame, element: u32, at: usize, out: &mut [u8], work: &mut [u8]) -> usize
     requires { (3 * f.p ≤ length work.old) × T (is_element element) × T (is_clean f.w f.h work.old)
-        × PenRoom down out.old at (open_runs f.w f.h (offsets element) work.old) }
-    ensures { SizeStepped down f.w f.h f.p (offsets element) work.old work.new out.old out.new at result }
+        × PenRoom P.down out.old at (open_runs f.w f.h (offsets element) work.old) }
+    ensures { SizeStepped P.down f.w f.h f.p (offsets element) work.old work.new out.old out.new at result }
 {
     let Frame { h, r, p, .. } = f;
     let from = raster::bands::first_row(&work[..p], r, 0, h);
     let to = raster::bands::end_row(&work[..p], r, from, h);
-    turn_band(down, f, from, to, element, at, out, work)
+    turn_band::<P>(f, from, to, element, at, out, work)
 }
 
 // The symbols of a section by those of its runs: commas end it, two where it has none.
@@ -129,13 +112,12 @@ fn measure(f: Frame, element: u32, lengths: &mut [u32], work: &mut [u8]) -> Tota
         work.old work.new }
 {
     let Frame { p, .. } = f;
-    let mut none = [0u8; 1];
     let mut total = Total {
         sizes: 0,
         symbols: 0,
     };
     while raster::has_ink(&work[..p]) {
-        let runs = take_size(false, f, element, 0, &mut none, work);
+        let runs = take_size::<Measure>(f, element, 0, &mut [], work);
         let symbols = section_length(runs);
         lengths[total.sizes] = symbols as u32;
         total.symbols += symbols;
@@ -152,7 +134,7 @@ fn write_last(f: Frame, out: &mut [u8], work: &mut [u8]) -> usize
 {
     let Frame { p, .. } = f;
     work[p + p..3 * p].fill(0);
-    sections::walk_plane(true, f, p + p, &work[..], 0, 0, out)
+    sections::walk_plane::<Write>(f, p + p, &work[..], 0, 0, out)
 }
 
 // Each size's section, from size 0 up, from the end of the stream on: into as many bytes of 0 as it needs.
@@ -180,7 +162,7 @@ fn write_sizes(
         if length == 2 {
             iteration::erode_times(f, element, 1, work);
         } else {
-            take_size(true, f, element, end, out, work);
+            take_size::<Write>(f, element, end, out, work);
         }
     }
     write_last(f, out, work);

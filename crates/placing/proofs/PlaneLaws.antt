@@ -24,11 +24,10 @@ use Rattle.raster.proofs.PartLaws.{PartIs, cut-bit, part_back, part-bit}
 use Rattle.raster.proofs.RowLaws.{row_in, row_bit-same}
 use Rattle.reading.specs.Seeking.{Seek, seek, sought_all, sought_points}
 use Rattle.reading.specs.declared.Next.{Next}
-use Rattle.reading.specs.declared.Next.TheVariants.{Run}
 use Rattle.reading.proofs.SeekLaws.{free_of, skip_all, sought-place}
 use Rattle.sections.proofs.KindLaws.{row_agree}
 use Rattle.placing.specs.Planes.{PixelsSought, PixelsWalked, pixels_at, plane_place, row_place}
-use Rattle.seeking.proofs.OnwardLaws.{Over}
+use Rattle.seeking.proofs.OnwardLaws.{Over, run_of}
 use Rattle.placing.proofs.WalkLaws.{Increasing, sought-none, walk_more, walk-over, walk_sized}
 
 -- ---- where the pixels are
@@ -106,7 +105,7 @@ rows-within y n h w l = subst (λ (k : ℕ). (y + n) * w ≤ k) (mul_comm h w) (
 
 -- n rows more, of m pixels
 pub rows_more : {w h r limit left at k j m : ℕ} {s : List ℕ} {q : ℕ → ℕ} {old mid new : List ℕ} {next : Option Next} (y n : ℕ) → Frame w h r → m ≡ n * w
-    → ((i : ℕ) → i < m → q i ≡ plane_place w r (y * w + i)) → PixelsWalked s limit (y * w) (plane_place w r) left at old mid (Some (Run k j))
+    → ((i : ℕ) → i < m → q i ≡ plane_place w r (y * w + i)) → PixelsWalked s limit (y * w) (plane_place w r) left at old mid (Some (run_of k j))
     → PixelsWalked s limit m q k j mid new next → PixelsWalked s limit ((y + n) * w) (plane_place w r) left at old new next
 rows_more {w} {h} {r} {limit} {left} {at} {k} {j} {m} {s} {q} {old} {mid} {new} {next} y n f e after a b =
     let z : y * w + m ≡ (y + n) * w = omega (arith, add-mul y n w) in
@@ -163,7 +162,7 @@ free-plane {w} {h} {r} s m f clean e =
 
 -- a walk over it, all within a run
 pub plane_passed : {w h r limit left : ℕ} (s : List ℕ) (at m : ℕ) (old : List ℕ) → Frame w h r → T (is_clean w h old) → m ≡ area w h (image_set w h old)
-    → w * h - m ≤ left → left < limit → PixelsWalked s limit (w * h) (plane_place w r) left at old old (Some (Run (left - (w * h - m)) at))
+    → w * h - m ≤ left → left < limit → PixelsWalked s limit (w * h) (plane_place w r) left at old old (Some (run_of (left - (w * h - m)) at))
 plane_passed {w} {h} {r} {limit} {left} s at m old f clean e l k =
     let n = free-plane old m f clean e in
     let q = skip_all limit left (pixels_at old (plane_place w r) (w * h)) (drop at s) (omega arith) in

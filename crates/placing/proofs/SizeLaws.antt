@@ -30,7 +30,7 @@ use Rattle.reading.specs.declared.Next.TheVariants.{Ended, Run}
 use Rattle.reading.proofs.SeekLaws.{among-place, seek-size}
 use Rattle.placing.specs.Planes.{PixelsSought, PixelsWalked, SizeRead, pixels_at, plane_place}
 use Rattle.seeking.specs.Words.{Advanced}
-use Rattle.seeking.proofs.OnwardLaws.{Over}
+use Rattle.seeking.proofs.OnwardLaws.{Over, run_of}
 use Rattle.placing.proofs.PlaneLaws.{image-pixels, length-places, place-digits, place_unpadded}
 use Rattle.placing.proofs.WalkLaws.{over_none}
 
@@ -102,23 +102,23 @@ module _ {w h r : ℕ} {s : List ℕ} {next : Option Next} (j : ℕ) (old new : 
 abbrev pub section_of : Option Next → Option ℕ
 section_of None = None
 section_of (Some (Ended end)) = Some end
-section_of (Some (Run left i)) = None
+section_of (Some (Run run)) = None
 
 -- a size of n pixels from symbol j on has so many symbols
 abbrev Reached : ℕ → ℕ → Option Next → Type 0
 Reached n j None = Unit {0}
 Reached n j (Some (Ended end)) = end ≤ j + 2 * n + 2
-Reached n j (Some (Run left i)) = Unit {0}
+Reached n j (Some (Run run)) = Unit {0}
 
 reached : (next : Option Next) (limit n j left i : ℕ) → i ≤ j + left + 2 → Advanced limit n left i next → Reached n j next
 reached None limit n j left i k m = tt
 reached (Some (Ended end)) limit n j left i k m = omega arith
-reached (Some (Run left' i')) limit n j left i k m = tt
+reached (Some (Run run)) limit n j left i k m = tt
 
 reached_once : (next : Option Next) (n j : ℕ) → Over next → Nearby j next → Reached n j next
 reached_once None n j o b = tt
 reached_once (Some (Ended end)) n j o b = omega arith
-reached_once (Some (Run left i)) n j o b = tt
+reached_once (Some (Run run)) n j o b = tt
 
 -- what a size begins with, and the plane
 module _ {w h r : ℕ} (s : List ℕ) (j : ℕ) (old : List ℕ) (f : Frame w h r) (clean : T (is_clean w h old)) (len : length old ≡ h * r) where
@@ -131,7 +131,7 @@ module _ {w h r : ℕ} (s : List ℕ) (j : ℕ) (old : List ℕ) (f : Frame w h 
           → ((i : ℕ) → get_or new i 0 < 256) → SizeRead s w h j old new (section_of next)
       by None p n bytes = (p.size, size-found j old new f clean p)
       by (Some (Ended end)) p n bytes = (size_points j old new f clean p, size-found j old new f clean p, size_packed j old new f clean p len bytes, n)
-      by (Some (Run left i)) p n bytes = (p.size, size-found j old new f clean p)
+      by (Some (Run run)) p n bytes = (p.size, size-found j old new f clean p)
 
   -- it is over at once
   pub size_once : (next : Option Next) → Over next → (next_of s next ≡ first_run (w * h) (drop j s)) × Nearby j next → ((i : ℕ) → get_or old i 0 < 256)
@@ -141,7 +141,7 @@ module _ {w h r : ℕ} (s : List ℕ) (j : ℕ) (old : List ℕ) (f : Frame w h 
 
   -- it is walked from the first run on
   pub size_walked : {left i : ℕ} {new : List ℕ} (next : Option Next)
-      → (next_of s (Some (Run left i)) ≡ first_run (w * h) (drop j s)) × Nearby j (Some (Run left i))
+      → (next_of s (Some (run_of left i)) ≡ first_run (w * h) (drop j s)) × Nearby j (Some (run_of left i))
       → PixelsWalked s (w * h) (w * h) (plane_place w r) left i old new next → ((k : ℕ) → get_or new k 0 < 256) → SizeRead s w h j old new (section_of next)
   size_walked {left} {i} {new} next a p =
-      size_read (Some (Run left i)) next new a.0 p.found (reached next (w * h) (w * h) j left i a.1 p.moved)
+      size_read (Some (run_of left i)) next new a.0 p.found (reached next (w * h) (w * h) j left i a.1 p.moved)

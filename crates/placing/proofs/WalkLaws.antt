@@ -20,7 +20,7 @@ use Rattle.reading.proofs.SeekLaws.{ended_all, length-points, lost_all, points_a
 use Rattle.sections.proofs.KindLaws.{row_agree, row_parts}
 use Rattle.placing.specs.Planes.{PixelsSought, PixelsWalked, pixels_at}
 use Rattle.seeking.specs.Words.{Advanced}
-use Rattle.seeking.proofs.OnwardLaws.{Over}
+use Rattle.seeking.proofs.OnwardLaws.{Over, run_of}
 
 -- the pixels come one after the other
 abbrev pub Increasing : (ℕ → ℕ) → Type 0
@@ -96,18 +96,18 @@ module _ {s : List ℕ} {limit n m : ℕ} {p q : ℕ → ℕ} {t : Seek} {old mi
 -- ---- and how far it has gone
 
 -- no pixel yet
-pub walk_none : {limit left : ℕ} (s : List ℕ) (p : ℕ → ℕ) (at : ℕ) (old : List ℕ) → left < limit → PixelsWalked s limit 0 p left at old old (Some (Run left at))
+pub walk_none : {limit left : ℕ} (s : List ℕ) (p : ℕ → ℕ) (at : ℕ) (old : List ℕ) → left < limit → PixelsWalked s limit 0 p left at old old (Some (run_of left at))
 unfolding tabulate sought_all sought_points
 walk_none s p at old l = record { found = sought-none refl refl; moved = (omega arith, l) }
 
 -- two walks, one after the other
-moved_more : (next : Option Next) (limit n m left at k j : ℕ) → Advanced limit n left at (Some (Run k j)) → Advanced limit m k j next → Advanced limit (n + m) left at next
+moved_more : (next : Option Next) (limit n m left at k j : ℕ) → Advanced limit n left at (Some (run_of k j)) → Advanced limit m k j next → Advanced limit (n + m) left at next
 moved_more None limit n m left at k j h g = tt
 moved_more (Some (Ended end)) limit n m left at k j h g = omega (arith, h.0)
-moved_more (Some (Run left' at')) limit n m left at k j h g = (omega (arith, h.0, g.0), g.1)
+moved_more (Some (Run run)) limit n m left at k j h g = (omega (arith, h.0, g.0), g.1)
 
 pub walk_more : {s : List ℕ} {limit n m left at k j : ℕ} {p q : ℕ → ℕ} {old mid new : List ℕ} {next : Option Next} → Increasing p
-    → ((i : ℕ) → i < m → q i ≡ p (n + i)) → PixelsWalked s limit n p left at old mid (Some (Run k j)) → PixelsWalked s limit m q k j mid new next
+    → ((i : ℕ) → i < m → q i ≡ p (n + i)) → PixelsWalked s limit n p left at old mid (Some (run_of k j)) → PixelsWalked s limit m q k j mid new next
     → PixelsWalked s limit (n + m) p left at old new next
 walk_more {s} {limit} {n} {m} {left} {at} {k} {j} {p} {q} {old} {mid} {new} {next} inc after a b = record {
   found = sought_more inc after a.found b.found;
@@ -123,12 +123,12 @@ walk_sized {s} {limit} {n} {m} {left} {at} {p} {old} {new} {next} q a = subst (�
 pub over_none : (next : Option Next) (s : List ℕ) (limit n : ℕ) (p : ℕ → ℕ) (old : List ℕ) → Over next → PixelsSought s limit n p (next_of s next) old old next
 over_none None s limit n p old o = let r = lost_all limit (pixels_at old p n) in sought-none (sym r.0) r.1
 over_none (Some (Ended end)) s limit n p old o = let r = ended_all limit (pixels_at old p n) (drop end s) in sought-none (sym r.0) r.1
-over_none (Some (Run left at)) s limit n p old o = absurd o
+over_none (Some (Run run)) s limit n p old o = absurd o
 
 moved-over : (next : Option Next) (limit n w left at : ℕ) → n ≤ w → Over next → Advanced limit n left at next → Advanced limit w left at next
 moved-over None limit n w left at h o m = tt
 moved-over (Some (Ended end)) limit n w left at h o m = omega arith
-moved-over (Some (Run left' at')) limit n w left at h o m = absurd o
+moved-over (Some (Run run)) limit n w left at h o m = absurd o
 
 pub walk-over : {s : List ℕ} {limit n left at : ℕ} {p : ℕ → ℕ} {old new : List ℕ} {next : Option Next} (w : ℕ) → n ≤ w → Increasing p → Over next
     → PixelsWalked s limit n p left at old new next → PixelsWalked s limit w p left at old new next

@@ -13,7 +13,7 @@ ghost use Rattle.planes.specs.Begun.{Begun};
 
 use raster::{Frame, Join};
 
-// Begins the plane at p, for an erosion or a dilation, with the first plane, which the element's origin asks for. The rest of the element is returned.
+// Begins the plane at q, for an erosion or a dilation, with the first plane, which the element's origin asks for. The rest of the element is returned.
 fn begin_plane(work: &mut [u8], q: usize, f: Frame, element: u32) -> u32
     requires { (f.h * f.r ≤ q) × (q + f.h * f.r ≤ length work.old) × T (bit element 12) }
     ensures { (t : Bool) → Begun t q f.r f.h element result work.old work.new }
@@ -23,7 +23,7 @@ fn begin_plane(work: &mut [u8], q: usize, f: Frame, element: u32) -> u32
     element - elements::ORIGIN
 }
 
-// Clears the padding of h rows at p.
+// Clears the padding of h rows at q.
 fn clear_rows(work: &mut [u8], q: usize, f: Frame)
     requires { (q + f.h * f.r ≤ length work.old) }
     ensures { PlaneIs q f.r f.h work.old work.new (λ y x. row_bit work.old (8 * (q + y * f.r) + x) && ltb x f.w) }
@@ -35,7 +35,7 @@ fn clear_rows(work: &mut [u8], q: usize, f: Frame)
     }
 }
 
-// The first plane, h rows of r bytes, eroded or dilated into the plane at p, with what a dilation puts into the padding.
+// The first plane, h rows of r bytes, eroded or dilated into the plane at q, with what a dilation puts into the padding.
 fn morph_plane(dilating: bool, work: &mut [u8], q: usize, f: Frame, element: u32)
     requires { (f.h * f.r ≤ q) × (q + f.h * f.r ≤ length work.old) × T (bit element 12) }
     ensures { PlaneIs q f.r f.h work.old work.new (λ y x. neighbours dilating element (near_bit work.old f.r f.h) x y) }
@@ -49,7 +49,7 @@ fn morph_plane(dilating: bool, work: &mut [u8], q: usize, f: Frame, element: u32
     neighbours::join_plane(how, &first[..], plane, f, rest);
 }
 
-// The first plane of work, eroded into the one at p.
+// The first plane of work, eroded into the one at q.
 pub fn erode_plane(f: Frame, q: usize, element: u32, work: &mut [u8])
     requires { (f.h * f.r ≤ q) × (q + f.h * f.r ≤ length work.old) × T (bit element 12) × T (is_clean f.w f.h work.old) }
     ensures { work.new ≡ overwrite q (pack f.w f.h (erode (offsets element) (image_set f.w f.h work.old))) work.old }
@@ -57,7 +57,7 @@ pub fn erode_plane(f: Frame, q: usize, element: u32, work: &mut [u8])
     morph_plane(false, work, q, f, element);
 }
 
-// The first plane of work, dilated into the one at p and clipped at the frame. Answers whether a point of the dilation fell off.
+// The first plane of work, dilated into the one at q and clipped at the frame. Answers whether a point of the dilation fell off.
 pub fn dilate_plane(f: Frame, q: usize, element: u32, work: &mut [u8]) -> bool
     requires { (f.h * f.r ≤ q) × (q + f.h * f.r ≤ length work.old) × T (bit element 12) × T (is_clean f.w f.h work.old) }
     ensures plane { work.new ≡ overwrite q (pack f.w f.h (clip f.w f.h (dilate (offsets element) (image_set f.w f.h work.old))))
@@ -73,7 +73,7 @@ pub fn dilate_plane(f: Frame, q: usize, element: u32, work: &mut [u8]) -> bool
     clipped
 }
 
-// The first plane of work, eroded into the one at p; that one, dilated into the next: the opening. Answers what the dilation does, that nothing fell off.
+// The first plane of work, eroded into the one at q; that one, dilated into the next: the opening. Answers what the dilation does, that nothing fell off.
 pub fn open_plane(f: Frame, q: usize, element: u32, work: &mut [u8]) -> bool
     requires { (f.h * f.r ≤ q) × (q + q + f.h * f.r ≤ length work.old) × T (bit element 12) × T (is_clean f.w f.h work.old) }
     ensures planes { work.new ≡ overwrite (q + q) (pack f.w f.h (opening (offsets element) (image_set f.w f.h work.old)))

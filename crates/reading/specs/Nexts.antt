@@ -8,10 +8,10 @@ use Rattle.reading.specs.declared.Next.TheVariants.{Ended, Run}
 abbrev pub next_of : List ℕ → Option Next → Seek
 next_of s None = lost
 next_of s (Some (Ended at)) = ended (drop at s)
-next_of s (Some (Run left at)) = seek left (drop at s)
+next_of s (Some (Run run)) = seek run.left (drop run.at s)
 
 -- it is not far from symbol `at`: no more digits than the run has pixels and one, and two commas
 abbrev pub Nearby : ℕ → Option Next → Type 0
 Nearby at None = Unit {0}
 Nearby at (Some (Ended next)) = next ≤ at + 2
-Nearby at (Some (Run left next)) = next ≤ at + left + 2
+Nearby at (Some (Run run)) = run.at ≤ at + run.left + 2

@@ -6,11 +6,18 @@ ghost use Rattle.coding.specs.Symbols.{symbols_of};
 ghost use Rattle.reading.specs.Nexts.{Nearby, next_of};
 ghost use Rattle.reading.specs.Seeking.{next_run, first_run};
 
-// What follows in a stream, if it can be read: the end of the size, with the symbol after it; or a run, with the symbol after its comma.
+// A run of which `left` pixels are to be passed before its point, and the symbol after its comma.
+#[derive(Clone, Copy)]
+pub struct Run {
+    pub left: u32,
+    pub at: usize,
+}
+
+// What follows in a stream, if it can be read: the end of the size, with the symbol after it; or a run.
 #[derive(Clone, Copy)]
 pub enum Next {
     Ended(usize),
-    Run { left: u32, at: usize },
+    Run(Run),
 }
 
 // Symbol j of a stream, unless the stream ends before it.
@@ -35,7 +42,7 @@ fn take_run(stream: &[u8], first: u8, at: usize, limit: u32) -> Option<Next>
         }
         let s = symbol(stream, j)?;
         if s == 0 {
-            return Some(Next::Run { left: v, at: j + 1 });
+            return Some(Next::Run(Run { left: v, at: j + 1 }));
         }
         let lead = v == 0;
         if lead {

@@ -5,7 +5,6 @@ use mathlib.Core.Path.{◌∙◌, ◌≡◌, ap, ap₂, refl, subst, sym}
 use Prim.Native.Nat.{◌*◌, ◌+◌, ◌-◌, ◌<◌, ◌≤◌, suc, zero, ℕ}
 use native.Mathlib.Nat.{add-suc, add-zero, suc-add}
 use native.Mathlib.Omega.{arith}
-use lib.Dec.{T}
 use lib.ListN.{get_or, length, length-append, length-map, replicate, replicate-append-replicate, set}
 use lib.Seq.{get_or-set_other, set-get_or, sets}
 use Rattle.coding.specs.Symbols.{comma, digit_symbols, numeral, symbols_of}
@@ -32,10 +31,6 @@ get_d_after (v ∷ vs) l i m h = get_d_after vs (set l i v) (suc i) m (omega ari
 -- a comma over a comma
 set-comma : (l : List ℕ) (i : ℕ) → get_or l i 0 ≡ 0 → set l i 0 ≡ l
 set-comma l i e = ap (λ (v : ℕ). set l i v) (sym e) ∙ set-get_or l i 0
-
--- a pen that is up leaves the symbols
-marks_up : (down : Bool) (s : List ℕ) (at : ℕ) (t : List ℕ) → down ≡ false → s ≡ marks down s at t
-marks_up down s at t f = subst (λ (d : Bool). s ≡ marks d s at t) (sym f) refl
 
 marks_append : (down : Bool) (s : List ℕ) (at : ℕ) (xs ys : List ℕ) → marks down s at (xs ++ ys) ≡ marks down (marks down s at xs) (at + length xs) ys
 marks_append true s at xs ys = sets_append xs ys s at
@@ -96,22 +91,22 @@ pub length_one : (run : ℕ) → length (runs_symbols (run ∷ [])) ≡ length (
 unfolding runs_symbols
 length_one run = length-append (digit_symbols (numeral run)) (comma ∷ []) ∙ ap (λ (n : ℕ). n + 1) (length-map (numeral run) suc)
 
-module _ (down : Bool) (run : ℕ) (old : List ℕ) (at at' : ℕ) (next : at' ≡ at + length (numeral run) + 1) where
+module _ (run : ℕ) (old : List ℕ) (at at' : ℕ) (next : at' ≡ at + length (numeral run) + 1) where
   -- up, only the place moves
-  pub up_one : down ≡ false → Marked down (run ∷ []) old old at at'
-  up_one f = record { size = refl; symbols = marks_up down (symbols_of old) at (runs_symbols (run ∷ [])) f; pen = omega (arith, length_one run, next) }
+  pub up_one : Marked false (run ∷ []) old old at at'
+  up_one = record { size = refl; symbols = refl; pen = omega (arith, length_one run, next) }
 
   -- down, its digits are written: the comma after them stands already
-  pub down_one : (new : List ℕ) → down ≡ true → PenRoom down old at (run ∷ []) → symbols_of new ≡ sets (symbols_of old) at (digit_symbols (numeral run))
-      → Marked down (run ∷ []) old new at at'
+  pub down_one : (new : List ℕ) → PenRoom true old at (run ∷ []) → symbols_of new ≡ sets (symbols_of old) at (digit_symbols (numeral run))
+      → Marked true (run ∷ []) old new at at'
   unfolding runs_symbols
-  down_one new t r e =
+  down_one new r e =
       let D = digit_symbols (numeral run) in
       let d : length D ≡ length (numeral run) = length-map (numeral run) suc in
-      let c = r.commas (subst T (sym t) tt) (length D) (omega (arith, length_one run, d)) in
+      let c = r.commas tt (length D) (omega (arith, length_one run, d)) in
       record {
         size = symbols-size old new at run e;
-        symbols = e ∙ sym (ap (λ (b : Bool). marks b (symbols_of old) at (D ++ comma ∷ [])) t ∙ sets_append D (comma ∷ []) (symbols_of old) at
+        symbols = e ∙ sym (sets_append D (comma ∷ []) (symbols_of old) at
             ∙ set-comma (sets (symbols_of old) at D) (at + length D) (get_d_after D (symbols_of old) at (at + length D) (omega arith) ∙ c));
         pen = omega (arith, length_one run, next);
       }
@@ -127,57 +122,44 @@ length-empty (suc n) =
     omega (arith, e, length-map (numeral 0) suc, length-small 0 (omega arith), length-empty n)
 
 -- up, only the place moves
-pub up-empty : (down : Bool) (n : ℕ) (old : List ℕ) (at : ℕ) → down ≡ false → Marked down (replicate n 0) old old at (at + 2 * n)
-up-empty down n old at f = record {
-  size = refl;
-  symbols = marks_up down (symbols_of old) at (runs_symbols (replicate n 0)) f;
-  pen = ap (λ (k : ℕ). at + k) (sym (length-empty n));
-}
+pub up-empty : (n : ℕ) (old : List ℕ) (at : ℕ) → Marked false (replicate n 0) old old at (at + 2 * n)
+up-empty n old at = record { size = refl; symbols = refl; pen = ap (λ (k : ℕ). at + k) (sym (length-empty n)) }
 
 -- where there is room for one, a comma stands
-pub empty-comma : {down : Bool} {s : List ℕ} {j : ℕ} → down ≡ true → PenRoom down s j (0 ∷ []) → (j < 4 * length s) × (get_or (symbols_of s) j 0 ≡ 0)
-empty-comma {down} {s} {j} t r =
-    let d = subst T (sym t) tt in
-    (omega (arith, r.inside d, length_one 0), ap (λ (i : ℕ). get_or (symbols_of s) i 0) (sym (add-zero j)) ∙ r.commas d 0 (omega (arith, length_one 0)))
+pub empty-comma : {s : List ℕ} {j : ℕ} → PenRoom true s j (0 ∷ []) → (j < 4 * length s) × (get_or (symbols_of s) j 0 ≡ 0)
+empty-comma {s} {j} r =
+    (omega (arith, r.inside tt, length_one 0), ap (λ (i : ℕ). get_or (symbols_of s) i 0) (sym (add-zero j)) ∙ r.commas tt 0 (omega (arith, length_one 0)))
 
 -- none at first
-pub emptied-none : (down : Bool) (old : List ℕ) (at : ℕ) → Marked down (replicate 0 0) old old at (at + 2 * 0)
-emptied-none down old at = subst (λ (j : ℕ). Marked down [] old old at j) (sym (add-zero at)) (marked-none down old at)
+pub emptied-none : (old : List ℕ) (at : ℕ) → Marked true (replicate 0 0) old old at (at + 2 * 0)
+emptied-none old at = subst (λ (j : ℕ). Marked true [] old old at j) (sym (add-zero at)) (marked-none true old at)
 
 -- k of n empty runs are written
-module _ (down : Bool) (n k : ℕ) (old new : List ℕ) (at : ℕ) (some : k < n) (room : PenRoom down old at (replicate n 0))
-    (done : Marked down (replicate k 0) old new at (at + 2 * k)) where
+module _ (n k : ℕ) (old new : List ℕ) (at : ℕ) (some : k < n) (room : PenRoom true old at (replicate n 0))
+    (done : Marked true (replicate k 0) old new at (at + 2 * k)) where
   -- the next has its commas
-  pub emptied-room : PenRoom down new (at + 2 * k) (0 ∷ [])
+  pub emptied-room : PenRoom true new (at + 2 * k) (0 ∷ [])
   emptied-room =
       let m = n - k - 1 in
       let e : n ≡ k + suc m = omega arith in
       let parts : replicate {A = ℕ} n 0 ≡ replicate k 0 ++ replicate (suc m) 0 =
       ap (λ (i : ℕ). replicate {A = ℕ} i 0) e ∙ sym (replicate-append-replicate {A = ℕ} k (suc m) 0) in
-      room_front (0 ∷ []) (replicate m 0) (room_next (replicate (suc m) 0) (subst (PenRoom down old at) parts room) done)
+      room_front (0 ∷ []) (replicate m 0) (room_next (replicate (suc m) 0) (subst (PenRoom true old at) parts room) done)
 
   -- and is written by its digit
-  pub emptied_more : (next : List ℕ) → down ≡ true → symbols_of next ≡ set (symbols_of new) (at + 2 * k) 1
-      → Marked down (replicate (k + 1) 0) old next at (at + 2 * (k + 1))
-  emptied_more next t e =
+  pub emptied_more : (next : List ℕ) → symbols_of next ≡ set (symbols_of new) (at + 2 * k) 1
+      → Marked true (replicate (k + 1) 0) old next at (at + 2 * (k + 1))
+  emptied_more next e =
       let d : symbols_of next ≡ sets (symbols_of new) (at + 2 * k) (digit_symbols (numeral 0)) =
       e ∙ ap (λ (ds : List ℕ). sets (symbols_of new) (at + 2 * k) (digit_symbols ds)) (sym (numeral-small 0 (omega arith))) in
-      let q = down_one down 0 new (at + 2 * k) (at + 2 * (k + 1)) (omega (arith, length-small 0 (omega arith))) next t emptied-room d in
-      subst (λ (rs : List ℕ). Marked down rs old next at (at + 2 * (k + 1))) (replicate-append-replicate k 1 0) (marked_append done q)
+      let q = down_one 0 new (at + 2 * k) (at + 2 * (k + 1)) (omega (arith, length-small 0 (omega arith))) next emptied-room d in
+      subst (λ (rs : List ℕ). Marked true rs old next at (at + 2 * (k + 1))) (replicate-append-replicate k 1 0) (marked_append done q)
 
 -- ---- walks
 
 pub walked_none : (down : Bool) (old : List ℕ) (at k : ℕ) → PenWalked down [] old old at k at k
 unfolding runs_of count_after
 walked_none down old at k = record { runs = marked-none down old at; count = refl }
-
--- up, a walk is two numbers
-pub up_walked : (down : Bool) (l : List Kind) (old : List ℕ) (at k at' k' : ℕ) → down ≡ false
-    → (at' ≡ at + length (runs_symbols (runs_of k l))) × (k' ≡ count_after k l) → PenWalked down l old old at k at' k'
-up_walked down l old at k at' k' f p = record {
-  runs = record { size = refl; symbols = marks_up down (symbols_of old) at (runs_symbols (runs_of k l)) f; pen = p.0 };
-  count = p.1;
-}
 
 pub walked_append : {down : Bool} {l m : List Kind} {old mid new : List ℕ} {at a at' k c k' : ℕ} → PenWalked down l old mid at k a c → PenWalked down m mid new a c at' k'
     → PenWalked down (l ++ m) old new at k at' k'

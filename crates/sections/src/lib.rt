@@ -11,7 +11,7 @@ ghost use Rattle.sections.specs.Pens.{Marked, PenRoom, PenWalked};
 ghost use Rattle.sections.specs.Words.{Word, row_kinds};
 
 use raster::Frame;
-use words::Pen;
+pub use words::{Measure, Pen, Place, Write};
 
 // Eight bytes from i on as one number.
 fn load(s: &[u8], i: usize) -> u64
@@ -46,52 +46,52 @@ pub fn load_few(s: &[u8], i: usize, n: usize) -> u64
 }
 
 // The runs that end in the first m pixels of the rows at bytes a, of foreground, and b, of mask.
-fn walk_few(down: bool, s: &[u8], a: usize, b: usize, m: usize, pen: Pen, out: &mut [u8]) -> Pen
+fn walk_few<P: Pen>(s: &[u8], a: usize, b: usize, m: usize, pen: Place, out: &mut [u8]) -> Place
     requires { (0 < m) × (m ≤ 64) × (a + (m + 7) / 8 ≤ length s.now) × (b + (m + 7) / 8 ≤ length s.now) × (pen.run < 2 ^ 24)
-        × PenRoom down out.old pen.at (runs_of pen.run (row_kinds s.now a b 0 m)) }
-    ensures { PenWalked down (row_kinds s.now a b 0 m) out.old out.new pen.at pen.run result.at result.run }
+        × PenRoom P.down out.old pen.at (runs_of pen.run (row_kinds s.now a b 0 m)) }
+    ensures { PenWalked P.down (row_kinds s.now a b 0 m) out.old out.new pen.at pen.run result.at result.run }
 {
     let n = (m + 7) / 8;
     let padding = (8 * n - m) as u32;
     let ink = load_few(s, a, n) >> padding;
     let mask = load_few(s, b, n) >> padding;
-    words::walk_word(down, m as u32, ink, mask, pen, out)
+    words::walk_word::<P>(m as u32, ink, mask, pen, out)
 }
 
-// The same for 64 pixels, a whole word; where the rows are the same there it has no point, and where it is dense it is measured at once.
-fn walk_whole(down: bool, s: &[u8], a: usize, b: usize, pen: Pen, out: &mut [u8]) -> Pen
-    requires { (a + 8 ≤ length s.now) × (b + 8 ≤ length s.now) × (pen.run < 2 ^ 24) × PenRoom down out.old pen.at (runs_of pen.run (row_kinds s.now a b 0 64)) }
-    ensures { PenWalked down (row_kinds s.now a b 0 64) out.old out.new pen.at pen.run result.at result.run }
+// The same for 64 pixels, a whole word; where the rows are the same there it has no point, and what the pen knows at once is not walked.
+fn walk_whole<P: Pen>(s: &[u8], a: usize, b: usize, pen: Place, out: &mut [u8]) -> Place
+    requires { (a + 8 ≤ length s.now) × (b + 8 ≤ length s.now) × (pen.run < 2 ^ 24) × PenRoom P.down out.old pen.at (runs_of pen.run (row_kinds s.now a b 0 64)) }
+    ensures { PenWalked P.down (row_kinds s.now a b 0 64) out.old out.new pen.at pen.run result.at result.run }
 {
     let ink = load(s, a);
     let mask = load(s, b);
     if ink == mask {
-        return Pen {
+        return Place {
             at: pen.at,
             run: pen.run + u64::count_ones(u64::MAX ^ mask),
         };
     }
-    if words::is_dense(down, ink, mask) {
-        return words::measure_dense(pen, ink);
+    if let Some(end) = P::at_once(ink, mask, pen) {
+        return end;
     }
-    words::walk_word(down, 64, ink, mask, pen, out)
+    words::walk_word::<P>(64, ink, mask, pen, out)
 }
 
 // The same for rows of any width, by whole words and what is left.
-fn walk_row(down: bool, s: &[u8], a: usize, b: usize, w: usize, mut pen: Pen, out: &mut [u8]) -> Pen
+fn walk_row<P: Pen>(s: &[u8], a: usize, b: usize, w: usize, mut pen: Place, out: &mut [u8]) -> Place
     requires { (a + (w + 7) / 8 ≤ length s.now) × (b + (w + 7) / 8 ≤ length s.now) × (pen.run + w < 2 ^ 24) × (w ≤ max_frame)
-        × PenRoom down out.old pen.at (runs_of pen.run (row_kinds s.now a b 0 w)) }
-    ensures { PenWalked down (row_kinds s.now a b 0 w) out.old out.new pen.at pen.run result.at result.run }
+        × PenRoom P.down out.old pen.at (runs_of pen.run (row_kinds s.now a b 0 w)) }
+    ensures { PenWalked P.down (row_kinds s.now a b 0 w) out.old out.new pen.at pen.run result.at result.run }
 {
     for k in 0..w / 64 {
-        pen = walk_whole(down, s, a + 8 * k, b + 8 * k, pen, out);
+        pen = walk_whole::<P>(s, a + 8 * k, b + 8 * k, pen, out);
     }
     let left = w % 64;
     if left == 0 {
         return pen;
     }
     let x = w / 64 * 8;
-    walk_few(down, s, a + x, b + x, left, pen, out)
+    walk_few::<P>(s, a + x, b + x, left, pen, out)
 }
 
 // The foreground pixels of some bytes; none are counted where there is none.
@@ -106,24 +106,24 @@ pub fn ink_of(s: &[u8]) -> u32
 }
 
 // The runs that end in the n rows of the first plane under the plane at q; where the two are the same there is none, and what is not masked is counted at once.
-fn walk_block(down: bool, f: Frame, q: usize, s: &[u8], mut pen: Pen, out: &mut [u8]) -> Pen
+fn walk_block<P: Pen>(f: Frame, q: usize, s: &[u8], mut pen: Place, out: &mut [u8]) -> Place
     requires { (f.h * f.r ≤ q) × (q + f.h * f.r ≤ length s.now) × T (is_clean f.w f.h (drop q s.now)) × (pen.run + f.w * f.h < 2 ^ 24)
-        × PenRoom down out.old pen.at (runs_of pen.run (kinds_from f.w (image_set f.w f.h s.now) (image_set f.w f.h (drop q s.now)) 0 (f.w * f.h))) }
-    ensures { PenWalked down (kinds_from f.w (image_set f.w f.h s.now) (image_set f.w f.h (drop q s.now)) 0 (f.w * f.h))
+        × PenRoom P.down out.old pen.at (runs_of pen.run (kinds_from f.w (image_set f.w f.h s.now) (image_set f.w f.h (drop q s.now)) 0 (f.w * f.h))) }
+    ensures { PenWalked P.down (kinds_from f.w (image_set f.w f.h s.now) (image_set f.w f.h (drop q s.now)) 0 (f.w * f.h))
         out.old out.new pen.at pen.run result.at result.run }
 {
     let Frame { w, h, r, .. } = f;
     if raster::same_rows(s, 0, q, h * r) {
         let covered = ink_of(&s[q..q + h * r]);
         let pixels = (w * h) as u32;
-        return Pen {
+        return Place {
             at: pen.at,
             run: pen.run + (pixels - covered),
         };
     }
     for y in 0..h {
         let a = y * r;
-        pen = walk_row(down, s, a, q + a, w, pen, out);
+        pen = walk_row::<P>(s, a, q + a, w, pen, out);
     }
     pen
 }
@@ -140,10 +140,10 @@ pub fn block_rows(y: usize, h: usize) -> usize
 }
 
 // The runs that end in the h rows of the first plane under the plane at q, block by block.
-fn walk_blocks(down: bool, f: Frame, q: usize, s: &[u8], mut pen: Pen, out: &mut [u8]) -> Pen
+fn walk_blocks<P: Pen>(f: Frame, q: usize, s: &[u8], mut pen: Place, out: &mut [u8]) -> Place
     requires { (f.h * f.r ≤ q) × (q + f.h * f.r ≤ length s.now) × T (is_clean f.w f.h (drop q s.now)) × (pen.run + f.w * f.h < 2 ^ 24)
-        × PenRoom down out.old pen.at (runs_of pen.run (kinds_from f.w (image_set f.w f.h s.now) (image_set f.w f.h (drop q s.now)) 0 (f.w * f.h))) }
-    ensures { PenWalked down (kinds_from f.w (image_set f.w f.h s.now) (image_set f.w f.h (drop q s.now)) 0 (f.w * f.h))
+        × PenRoom P.down out.old pen.at (runs_of pen.run (kinds_from f.w (image_set f.w f.h s.now) (image_set f.w f.h (drop q s.now)) 0 (f.w * f.h))) }
+    ensures { PenWalked P.down (kinds_from f.w (image_set f.w f.h s.now) (image_set f.w f.h (drop q s.now)) 0 (f.w * f.h))
         out.old out.new pen.at pen.run result.at result.run }
 {
     let Frame { w, h, r, .. } = f;
@@ -155,15 +155,14 @@ fn walk_blocks(down: bool, f: Frame, q: usize, s: &[u8], mut pen: Pen, out: &mut
             r,
             p: n * r,
         };
-        pen = walk_block(down, band, q, &s[y * r..], pen, out);
+        pen = walk_block::<P>(band, q, &s[y * r..], pen, out);
     }
     pen
 }
 
 // The runs that end in the h rows of the first plane under the plane at q, where `run` pixels were counted before them; none where the two are the same.
 // Answers where the pen stands.
-pub fn walk_plane(
-    down: bool,
+pub fn walk_plane<P: Pen>(
     f: Frame,
     q: usize,
     s: &[u8],
@@ -172,13 +171,13 @@ pub fn walk_plane(
     out: &mut [u8],
 ) -> usize
     requires { (f.h * f.r ≤ q) × (q + f.h * f.r ≤ length s.now) × T (is_clean f.w f.h (drop q s.now)) × (run + f.w * f.h < 2 ^ 24)
-        × PenRoom down out.old at (runs_of run (kinds_from f.w (image_set f.w f.h s.now) (image_set f.w f.h (drop q s.now)) 0 (f.w * f.h))) }
-    ensures { Marked down (runs_of run (kinds_from f.w (image_set f.w f.h s.now) (image_set f.w f.h (drop q s.now)) 0 (f.w * f.h)))
+        × PenRoom P.down out.old at (runs_of run (kinds_from f.w (image_set f.w f.h s.now) (image_set f.w f.h (drop q s.now)) 0 (f.w * f.h))) }
+    ensures { Marked P.down (runs_of run (kinds_from f.w (image_set f.w f.h s.now) (image_set f.w f.h (drop q s.now)) 0 (f.w * f.h)))
         out.old out.new at result }
 {
     if raster::same_rows(s, 0, q, f.h * f.r) {
         return at;
     }
-    let pen = Pen { at, run };
-    walk_blocks(down, f, q, s, pen, out).at
+    let pen = Place { at, run };
+    walk_blocks::<P>(f, q, s, pen, out).at
 }

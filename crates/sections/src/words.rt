@@ -1,5 +1,5 @@
 // Words of up to 64 pixels: the runs that end in them, measured or written.
-ghost use Rattle.std.specs.Prelude.{false, ◌≡◌, [], ◌∷◌, ◌+◌, ◌-◌, ◌*◌, ◌/◌, ◌<◌, ◌≤◌, ◌^◌, T, length, replicate};
+ghost use Rattle.std.specs.Prelude.{Bool, false, true, ◌≡◌, List, [], ◌∷◌, IfSome, ℕ, ◌+◌, ◌-◌, ◌*◌, ◌/◌, ◌<◌, ◌≤◌, ◌^◌, T, length, replicate};
 ghost use Rattle.std.specs.Int.Count.{ones};
 ghost use Rattle.coding.specs.Writing.{runs_symbols};
 ghost use Rattle.sections.specs.Kinds.{count_after, runs_of};
@@ -8,34 +8,74 @@ ghost use Rattle.sections.specs.Words.{Dense, word_kinds};
 
 // Where a pen stands in a stream of symbols, and the pixels counted since the last point.
 #[derive(Clone, Copy)]
-pub struct Pen {
+pub struct Place {
     pub at: usize,
     pub run: u32,
 }
 
-// One run and its comma. Answers where the next stands.
-fn end_run(down: bool, at: usize, run: u32, out: &mut [u8]) -> usize
-    requires { PenRoom down out.old at (run ∷ []) }
-    ensures { Marked down (run ∷ []) out.old out.new at result }
-{
-    if down {
-        return coding::put_run(out, at, run);
-    }
-    at + (coding::digits(run) as usize) + 1
+// What a pen does at runs: it writes them, where it is down, or it only moves as far as they reach.
+pub trait Pen {
+    ghost down: { Bool };
+
+    // One run and its comma. Answers where the next stands.
+    fn end_run(at: usize, run: u32, out: &mut [u8]) -> usize
+        requires { PenRoom down out.old at (run ∷ []) }
+        ensures { Marked down (run ∷ []) out.old out.new at result };
+
+    // n runs of no pixel, each with its comma.
+    fn empty_runs(at: usize, n: u32, out: &mut [u8]) -> usize
+        requires { PenRoom down out.old at (replicate n 0) }
+        ensures { Marked down (replicate n 0) out.old out.new at result };
+
+    // The runs that end in a whole word, where they are known at once and none is written.
+    fn at_once(ink: u64, mask: u64, pen: Place) -> Option<Place>
+        requires { (pen.run < 2 ^ 24) × (pen.at + length (runs_symbols (runs_of pen.run (word_kinds 64 ink mask))) < 2 ^ 40) }
+        ensures { IfSome result (λ p. (s : List ℕ) → PenWalked down (word_kinds 64 ink mask) s s pen.at pen.run p.at p.run) };
 }
 
-// n runs of no pixel, each with its comma.
-fn empty_runs(down: bool, at: usize, n: u32, out: &mut [u8]) -> usize
-    requires { PenRoom down out.old at (replicate n 0) }
-    ensures { Marked down (replicate n 0) out.old out.new at result }
-{
-    let n = n as usize;
-    if down {
+// It is up.
+pub struct Measure;
+
+impl Pen for Measure {
+    ghost down = { false };
+
+    fn end_run(at: usize, run: u32, out: &mut [u8]) -> usize {
+        at + (coding::digits(run) as usize) + 1
+    }
+
+    fn empty_runs(at: usize, n: u32, out: &mut [u8]) -> usize {
+        at + 2 * n as usize
+    }
+
+    fn at_once(ink: u64, mask: u64, pen: Place) -> Option<Place> {
+        if mask != 0 || !is_dense(ink) {
+            return None;
+        }
+        Some(measure_dense(pen, ink))
+    }
+}
+
+// It is down.
+pub struct Write;
+
+impl Pen for Write {
+    ghost down = { true };
+
+    fn end_run(at: usize, run: u32, out: &mut [u8]) -> usize {
+        coding::put_run(out, at, run)
+    }
+
+    fn empty_runs(at: usize, n: u32, out: &mut [u8]) -> usize {
+        let n = n as usize;
         for k in 0..n {
             coding::put(out, at + 2 * k, 1);
         }
+        at + 2 * n
     }
-    at + 2 * n
+
+    fn at_once(ink: u64, mask: u64, pen: Place) -> Option<Place> {
+        None
+    }
 }
 
 // How many pixels are free from height `top` down to the point at height h. Most often all of them are.
@@ -64,9 +104,9 @@ fn leading_points(left: u64, h: u32) -> u32
 }
 
 // The runs that end in the m pixels of a word of foreground and a word of mask.
-pub fn walk_word(down: bool, m: u32, ink: u64, mask: u64, pen: Pen, out: &mut [u8]) -> Pen
-    requires { (0 < m) × (m ≤ 64) × (ink < 2 ^ m) × (mask < 2 ^ m) × (pen.run < 2 ^ 24) × PenRoom down out.old pen.at (runs_of pen.run (word_kinds m ink mask)) }
-    ensures { PenWalked down (word_kinds m ink mask) out.old out.new pen.at pen.run result.at result.run }
+pub fn walk_word<P: Pen>(m: u32, ink: u64, mask: u64, pen: Place, out: &mut [u8]) -> Place
+    requires { (0 < m) × (m ≤ 64) × (ink < 2 ^ m) × (mask < 2 ^ m) × (pen.run < 2 ^ 24) × PenRoom P.down out.old pen.at (runs_of pen.run (word_kinds m ink mask)) }
+    ensures { PenWalked P.down (word_kinds m ink mask) out.old out.new pen.at pen.run result.at result.run }
 {
     let either = ink | mask;
     let mut left = either ^ mask;
@@ -76,7 +116,7 @@ pub fn walk_word(down: bool, m: u32, ink: u64, mask: u64, pen: Pen, out: &mut [u
     let mut k = pen.run;
     while left != 0 {
         let h = 63 - u64::leading_zeros(left);
-        j = end_run(down, j, k + count_free(rest, h, top), out);
+        j = P::end_run(j, k + count_free(rest, h, top), out);
         k = 0;
         let bit = 1u64 << h;
         left %= bit;
@@ -84,41 +124,35 @@ pub fn walk_word(down: bool, m: u32, ink: u64, mask: u64, pen: Pen, out: &mut [u
         top = h;
         let n = leading_points(left, h);
         if n != 0 {
-            j = empty_runs(down, j, n, out);
+            j = P::empty_runs(j, n, out);
             top = h - n;
             let low = 1u64 << top;
             left %= low;
             rest %= low;
         }
     }
-    Pen {
+    Place {
         at: j,
         run: k + u64::count_ones(rest),
     }
 }
 
-// Whether the pen is up over a word with no mask and no three background pixels side by side.
-pub fn is_dense(down: bool, ink: u64, mask: u64) -> bool
-    ensures { T result → (down ≡ false) × (mask ≡ 0) × Dense 64 ink }
+// Whether a word has no three background pixels side by side.
+fn is_dense(ink: u64) -> bool
+    ensures { T result → Dense 64 ink }
 {
-    if mask != 0 {
-        return false;
-    }
-    if down {
-        return false;
-    }
     let gaps = ink ^ u64::MAX;
     gaps & (gaps >> 1) & (gaps >> 2) == 0
 }
 
 // The runs that end in a dense word under no mask, measured: each but the first has one digit.
-pub fn measure_dense(pen: Pen, ink: u64) -> Pen
+fn measure_dense(pen: Place, ink: u64) -> Place
     requires { Dense 64 ink × (pen.run < 2 ^ 24) × (pen.at + length (runs_symbols (runs_of pen.run (word_kinds 64 ink 0))) < 2 ^ 40) }
     ensures { (result.at ≡ pen.at + length (runs_symbols (runs_of pen.run (word_kinds 64 ink 0)))) × (result.run ≡ count_after pen.run (word_kinds 64 ink 0)) }
 {
     let first = coding::digits(pen.run + u64::leading_zeros(ink));
     let rest = 2 * u64::count_ones(ink) - 1;
-    Pen {
+    Place {
         at: pen.at + ((first + rest) as usize),
         run: u64::trailing_zeros(ink),
     }

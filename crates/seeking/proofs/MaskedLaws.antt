@@ -20,7 +20,7 @@ use Rattle.reading.proofs.SeekLaws.{free_of, next-below}
 use Rattle.sections.proofs.WordLaws.{low_lt, power, power_is}
 use Rattle.seeking.specs.Words.{Advanced, Onward, WordSought, barred, word_bits}
 use Rattle.seeking.proofs.BarLaws.{barred-at, barred_low, barred-mask, free-barred, length-barred}
-use Rattle.seeking.proofs.OnwardLaws.{Over, onward-none, onward_on, onward-over, onward-point, onward-skipped}
+use Rattle.seeking.proofs.OnwardLaws.{Over, onward-none, onward_on, onward-over, onward-point, onward-skipped, run_of}
 
 -- the pixels above some height are walked; the free ones below it are in `free`
 pub record MaskWalk (s : List ℕ) (limit m mask left at points free k j : ℕ) : Type 0 where
@@ -61,12 +61,12 @@ MaskWalked s limit m mask left at points next =
 
 module _ {s : List ℕ} {limit m mask left at points free k j : ℕ} (w : MaskWalk s limit m mask left at points free k j) where
   -- it ends where no more free pixels are left than the run has
-  pub masked-end : (count : ℕ) → count ≡ ones free → count ≤ k → MaskWalked s limit m mask left at points (Some (Run (k - count) j))
+  pub masked-end : (count : ℕ) → count ≡ ones free → count ≤ k → MaskWalked s limit m mask left at points (Some (run_of (k - count) j))
   masked-end count e l =
       let f : free_of (barred w.top free) ≡ count = free-barred w.top free w.fits ∙ sym e in
       let few = ones-le w.top free w.fits in
       let fits : count ≤ w.top = omega arith in (
-        subst (λ (x : ℕ). WordSought s limit m (word_bits m mask) (seek left (drop at s)) points (Some (Run (k - x) j))) f
+        subst (λ (x : ℕ). WordSought s limit m (word_bits m mask) (seek left (drop at s)) points (Some (run_of (k - x) j))) f
             (onward-skipped s k j w.onward refl (length-barred w.top free) (omega arith)),
         (omega (arith, w.moved, w.short), omega (arith, w.below)),
       )
@@ -116,10 +116,10 @@ module _ {s : List ℕ} {limit m mask left at points free k j : ℕ} (w : MaskWa
         near : (next : Option Next) → Over next → Nearby j next → Advanced limit m left at next
         near None o n = tt
         near (Some (Ended end)) o n = omega (arith, w.moved, w.short, above)
-        near (Some (Run left at)) o n = absurd o
+        near (Some (Run run)) o n = absurd o
 
     -- where a run follows
-    pub masked-run : (left' next : ℕ) → next_of s (Some (Run left' next)) ≡ next_run limit (drop j s) → Nearby j (Some (Run left' next))
+    pub masked-run : (left' next : ℕ) → next_of s (Some (run_of left' next)) ≡ next_run limit (drop j s) → Nearby j (Some (run_of left' next))
         → MaskWalk s limit m mask left at (points + power h) (free % power h) left' next
     masked-run left' next e n = record {
       top = h;

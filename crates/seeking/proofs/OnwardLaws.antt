@@ -120,6 +120,10 @@ onward_open limit n k s h =
 
 -- ---- the end of a walk
 
+-- a run follows: so many pixels are to be passed before its point, and the symbol after its comma
+abbrev pub run_of : ℕ → ℕ → Next
+run_of left at = Run (record { left = left; at = at })
+
 -- where no point is in what is left
 pub onward-end : {limit n : ℕ} {l : List Bool} {t : Seek} {v n' : ℕ} {l' : List Bool} {t' : Seek} (s : List ℕ) (next : Option Next)
     → Onward limit n l t v n' l' t' → sought_points limit l' t' ≡ replicate n' false → next_of s next ≡ sought_all limit l' t' → WordSought s limit n l t v next
@@ -133,14 +137,14 @@ onward-end {limit} {n} {l} {t} {v} {n'} {l'} {t'} s next o p e = record {
 abbrev pub Over : Option Next → Type 0
 Over None = Unit {0}
 Over (Some (Ended end)) = Unit {0}
-Over (Some (Run left at)) = ⊥
+Over (Some (Run run)) = ⊥
 
 -- so there is no point, and no run follows later
 over_rest : (limit : ℕ) (l : List Bool) (s : List ℕ) (next : Option Next) → Over next
     → (sought_points limit l (next_of s next) ≡ replicate (length l) false) × (next_of s next ≡ sought_all limit l (next_of s next))
 over_rest limit l s None o = let r = lost_all limit l in (r.1, sym r.0)
 over_rest limit l s (Some (Ended end)) o = let r = ended_all limit l (drop end s) in (r.1, sym r.0)
-over_rest limit l s (Some (Run left at)) o = absurd o
+over_rest limit l s (Some (Run run)) o = absurd o
 
 -- since the size has ended, or the symbols cannot be read
 pub onward-over : {limit n : ℕ} {l : List Bool} {t : Seek} {v n' : ℕ} {l' : List Bool} {t' : Seek} (s : List ℕ) (next : Option Next) → Over next
@@ -152,8 +156,8 @@ onward-over {limit} {n} {l} {t} {v} {n'} {l'} {t'} s next o w h g =
 -- since the run goes on
 pub onward-skipped : {limit n : ℕ} {l : List Bool} {t : Seek} {v n' : ℕ} {l' : List Bool} {t' : Seek} (s : List ℕ) (k j : ℕ)
     → Onward limit n l t v n' l' t' → t' ≡ seek k (drop j s) → length l' ≡ n' → free_of l' ≤ k
-    → WordSought s limit n l t v (Some (Run (k - free_of l') j))
+    → WordSought s limit n l t v (Some (run_of (k - free_of l') j))
 onward-skipped {limit} {n} {l} {t} {v} {n'} {l'} {t'} s k j o h g f =
     let r = skip_all limit k l' (drop j s) f in
-    onward-end s (Some (Run (k - free_of l') j)) o (ap (sought_points limit l') h ∙ r.1 ∙ ap (λ (x : ℕ). replicate x false) g)
+    onward-end s (Some (run_of (k - free_of l') j)) o (ap (sought_points limit l') h ∙ r.1 ∙ ap (λ (x : ℕ). replicate x false) g)
     (sym (ap (sought_all limit l') h ∙ r.0))

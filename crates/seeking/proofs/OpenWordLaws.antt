@@ -14,7 +14,7 @@ use Rattle.reading.specs.declared.Next.TheVariants.{Ended, Run}
 use Rattle.reading.proofs.SeekLaws.{next-below}
 use Rattle.seeking.specs.Words.{Advanced, Onward, WordSought, word_bits}
 use Rattle.seeking.proofs.MaskedLaws.{MaskWalked}
-use Rattle.seeking.proofs.OnwardLaws.{Over, free_open, onward-none, onward_on, onward_open, onward-over, onward-skipped, word-bits-zero}
+use Rattle.seeking.proofs.OnwardLaws.{Over, free_open, onward-none, onward_on, onward_open, onward-over, onward-skipped, run_of, word-bits-zero}
 
 -- a walk over m pixels from the stand of `place_open` has come to symbol j and to the last `top` pixels; v has its points
 pub record OpenWalk (s : List ℕ) (limit m left at v top j : ℕ) : Type 0 where
@@ -52,14 +52,14 @@ module _ {s : List ℕ} {limit m left at v top j : ℕ} (w : OpenWalk s limit m 
       near : (next : Option Next) → Over next → Nearby j next → Advanced limit m left at next
       near None o n = tt
       near (Some (Ended end)) o n = omega (arith, w.near, w.less)
-      near (Some (Run left at)) o n = absurd o
+      near (Some (Run run)) o n = absurd o
 
-  module _ (k i : ℕ) (f : Follows s limit j (Some (Run k i))) where
+  module _ (k i : ℕ) (f : Follows s limit j (Some (run_of k i))) where
     -- a run goes on past the word
-    pub open-skipped : top ≤ k → OpenWalked s limit m left at v (Some (Run (k - top) i))
+    pub open-skipped : top ≤ k → OpenWalked s limit m left at v (Some (run_of (k - top) i))
     open-skipped h =
         let e = free_open top in (
-          subst (λ (n : ℕ). WordSought s limit m (replicate m false) (seek left (drop at s)) v (Some (Run (k - n) i))) e
+          subst (λ (n : ℕ). WordSought s limit m (replicate m false) (seek left (drop at s)) v (Some (run_of (k - n) i))) e
               (onward-skipped s k i w.walk (sym f.0) (length-replicate top false) (omega arith)),
           (omega (arith, w.near, w.less, f.1), omega (arith, next-below limit k (drop j s) (drop i s) f.0)),
         )
@@ -73,10 +73,10 @@ module _ {s : List ℕ} {limit m left at v top j : ℕ} (w : OpenWalk s limit m 
     }
 
 -- a run that goes past all pixels
-pub open_none : (s : List ℕ) (limit m left at : ℕ) → m ≤ left → left < limit → OpenWalked s limit m left at 0 (Some (Run (left - m) at))
+pub open_none : (s : List ℕ) (limit m left at : ℕ) → m ≤ left → left < limit → OpenWalked s limit m left at 0 (Some (run_of (left - m) at))
 open_none s limit m left at h l =
     let e = free_open m in (
-      subst (λ (n : ℕ). WordSought s limit m (replicate m false) (seek left (drop at s)) 0 (Some (Run (left - n) at))) e
+      subst (λ (n : ℕ). WordSought s limit m (replicate m false) (seek left (drop at s)) 0 (Some (run_of (left - n) at))) e
           (onward-skipped s left at (onward-none limit m (replicate m false) (seek left (drop at s))) refl (length-replicate m false) (omega arith)),
       (omega arith, omega arith),
     )

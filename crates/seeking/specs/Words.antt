@@ -34,4 +34,4 @@ pub record WordSought (s : List ℕ) (limit n : ℕ) (l : List Bool) (t : Seek) 
 abbrev pub Advanced : ℕ → ℕ → ℕ → ℕ → Option Next → Type 0
 Advanced limit n left at None = Unit {0}
 Advanced limit n left at (Some (Ended next)) = next + left ≤ at + 2 * n
-Advanced limit n left at (Some (Run left' next)) = (next + left ≤ at + left' + 2 * n) × (left' < limit)
+Advanced limit n left at (Some (Run run)) = (run.at + left ≤ at + run.left + 2 * n) × (run.left < limit)

@@ -8,7 +8,7 @@ ghost use Rattle.morphology.specs.Element.{bit};
 ghost use Rattle.reading.specs.Seeking.{next_run, seek};
 ghost use Rattle.seeking.specs.Words.{Advanced, Onward, WordSought, word_bits};
 
-use reading::Next;
+use reading::{Next, Run};
 
 // The points of a word, and what follows in the stream, if it can be read.
 #[derive(Clone, Copy)]
@@ -30,35 +30,32 @@ fn pick(free: u64, k: u32) -> u32
 }
 
 // The points in the m pixels of a word, of which a mask covers some.
-fn place_masked(stream: &[u8], limit: u32, m: u32, mask: u64, left: u32, at: usize) -> Placed
-    requires { (0 < m) × (m ≤ 64) × (mask < 2 ^ m) × (left < limit) × (limit < 2 ^ 24) × (at < 2 ^ 39) }
-    ensures { WordSought (symbols_of stream.now) limit m (word_bits m mask) (seek left (drop at (symbols_of stream.now)))
-        result.points result.next × Advanced limit m left at result.next }
+fn place_masked(stream: &[u8], limit: u32, m: u32, mask: u64, mut run: Run) -> Placed
+    requires { (0 < m) × (m ≤ 64) × (mask < 2 ^ m) × (run.left < limit) × (limit < 2 ^ 24) × (run.at < 2 ^ 39) }
+    ensures { WordSought (symbols_of stream.now) limit m (word_bits m mask) (seek run.left (drop run.at (symbols_of stream.now)))
+        result.points result.next × Advanced limit m run.left run.at result.next }
 {
     let mut free = (u64::MAX >> (64 - m)) ^ mask;
     let mut count = free.count_ones();
     let mut points: u64 = 0;
-    let mut k = left;
-    let mut j = at;
-    while k < count {
-        let bit = 1u64 << pick(free, k);
+    while run.left < count {
+        let bit = 1u64 << pick(free, run.left);
         points += bit;
         free %= bit;
         count = free.count_ones();
-        let next = reading::next_run(stream, j, limit);
+        let next = reading::next_run(stream, run.at, limit);
         let Some(follows) = next else {
             return Placed { points, next };
         };
-        let Next::Run { left, at } = follows else {
+        let Next::Run(after) = follows else {
             return Placed { points, next };
         };
-        k = left;
-        j = at;
+        run = after;
     }
-    let left = k - count;
+    let left = run.left - count;
     Placed {
         points,
-        next: Some(Next::Run { left, at: j }),
+        next: Some(Next::Run(Run { left, at: run.at })),
     }
 }
 
@@ -118,52 +115,51 @@ fn short_runs(stream: &[u8], at: usize, top: u32) -> Short
 }
 
 // The points in the m pixels of a word that no mask covers.
-fn place_open(stream: &[u8], limit: u32, m: u32, left: u32, at: usize) -> Placed
-    requires { (left < m) × (m ≤ 64) × (m ≤ limit) × (limit < 2 ^ 24) × (at < 2 ^ 39) }
-    ensures { WordSought (symbols_of stream.now) limit m (replicate m false) (seek left (drop at (symbols_of stream.now)))
-        result.points result.next × Advanced limit m left at result.next }
+fn place_open(stream: &[u8], limit: u32, m: u32, mut run: Run) -> Placed
+    requires { (run.left < m) × (m ≤ 64) × (m ≤ limit) × (limit < 2 ^ 24) × (run.at < 2 ^ 39) }
+    ensures { WordSought (symbols_of stream.now) limit m (replicate m false) (seek run.left (drop run.at (symbols_of stream.now)))
+        result.points result.next × Advanced limit m run.left run.at result.next }
 {
-    let mut top = m - left - 1;
+    let mut top = m - run.left - 1;
     let mut points = 1u64 << top;
-    let mut j = at;
     loop {
-        let short = short_runs(stream, j, top);
+        let short = short_runs(stream, run.at, top);
         points += short.points;
         let next = reading::next_run(stream, short.at, limit);
         let Some(follows) = next else {
             return Placed { points, next };
         };
-        let Next::Run { left, at } = follows else {
+        let Next::Run(after) = follows else {
             return Placed { points, next };
         };
-        if left >= short.top {
-            let left = left - short.top;
+        if after.left >= short.top {
+            let left = after.left - short.top;
             return Placed {
                 points,
-                next: Some(Next::Run { left, at }),
+                next: Some(Next::Run(Run { left, at: after.at })),
             };
         }
-        top = short.top - left - 1;
+        top = short.top - after.left - 1;
         points += 1u64 << top;
-        j = at;
+        run = after;
     }
 }
 
 // The points in the m pixels of a word of mask. Most often there is no mask, or no point.
-pub fn place_word(stream: &[u8], limit: u32, m: u32, mask: u64, left: u32, at: usize) -> Placed
-    requires { (0 < m) × (m ≤ 64) × (m ≤ limit) × (mask < 2 ^ m) × (left < limit) × (limit < 2 ^ 24) × (at < 2 ^ 39) }
-    ensures { WordSought (symbols_of stream.now) limit m (word_bits m mask) (seek left (drop at (symbols_of stream.now)))
-        result.points result.next × Advanced limit m left at result.next }
+pub fn place_word(stream: &[u8], limit: u32, m: u32, mask: u64, run: Run) -> Placed
+    requires { (0 < m) × (m ≤ 64) × (m ≤ limit) × (mask < 2 ^ m) × (run.left < limit) × (limit < 2 ^ 24) × (run.at < 2 ^ 39) }
+    ensures { WordSought (symbols_of stream.now) limit m (word_bits m mask) (seek run.left (drop run.at (symbols_of stream.now)))
+        result.points result.next × Advanced limit m run.left run.at result.next }
 {
     if mask != 0 {
-        return place_masked(stream, limit, m, mask, left, at);
+        return place_masked(stream, limit, m, mask, run);
     }
-    if m <= left {
-        let left = left - m;
+    if m <= run.left {
+        let left = run.left - m;
         return Placed {
             points: 0,
-            next: Some(Next::Run { left, at }),
+            next: Some(Next::Run(Run { left, at: run.at })),
         };
     }
-    place_open(stream, limit, m, left, at)
+    place_open(stream, limit, m, run)
 }

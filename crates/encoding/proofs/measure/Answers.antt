@@ -1,3 +1,4 @@
+use mathlib.Core.List.{[]}
 use mathlib.Core.Path.{sym}
 use native.Mathlib.Omega.{arith}
 use Rattle.iteration.proofs.StepLaws.{first-start, sheet-bytes}
@@ -18,7 +19,7 @@ take_size-runs-requires c =
       omega (arith, l.invariant.plane.size, c.requires.0),
       c.requires.2,
       counted-clean c.args.f.sheet c.requires.2 l.invariant,
-      room_up c.args.f.sheet.frame (offsets c.args.element) l.work l.none,
+      room_up c.args.f.sheet.frame (offsets c.args.element) l.work [],
     )
 
 pub section_length-symbols-requires : goal.section_length-symbols-requires

@@ -13,24 +13,24 @@ use Rattle.encoding.proofs.SizeLaws.{opened-runs}
 use Rattle.encoding.proofs.turn.Goals as goal
 
 pub open_plane-requires : goal.open_plane-requires
-open_plane-requires c =
+open_plane-requires g c =
     let t = c.requires.0 in
     (t.apart, t.planes, element-bit c.args.element t.element, t.clean)
 
 pub walk_plane-end-requires : goal.walk_plane-end-requires
-walk_plane-end-requires c =
+walk_plane-end-requires g c =
     let a = c.args in
     let t = c.requires.0 in (
       omega (arith, t.apart),
       search rules,
       opened-clean a.f.w a.f.h a.f.r a.q a.element a.work.now t.frame t.apart t.planes _ c.open_plane.ensures.planes,
       c.requires.1,
-      subst (λ (rs : List ℕ). PenRoom a.down a.out.now a.at rs)
+      subst (λ (rs : List ℕ). PenRoom g.P.Pen.down a.out.now a.at rs)
           (sym (opened-runs a.f.w a.f.h a.f.r a.q a.element a.work.now t.frame t.apart t.planes _ c.open_plane.ensures.planes a.before)) c.requires.2,
     )
 
 pub returns : goal.returns
-returns c =
+returns g c =
     let a = c.args in
     let t = c.requires.0 in
     let n = a.f.h * a.f.r in

@@ -20,10 +20,10 @@ few w f b =
     omega (arith, band_span b w)
 
 pub turn-requires : goal.turn-requires
-turn-requires c =
+turn-requires g c =
     let a = c.args in
     let b = c.requires.0 in
-    let g = few a.f.w b.frame c.requires.1 in
+    let small = few a.f.w b.frame c.requires.1 in
     let e = mul_comm a.f.w (a.to - a.from) in
     let three : 3 * (a.f.h * a.f.r) ≤ length a.work.now = omega (arith, b.planes) in
     let bytes : (i : ℕ) → get_or a.work.now i 0 < 256 = λ i. (c.slice_known-2-1.given i).fits in (
@@ -35,12 +35,12 @@ turn-requires c =
         clean = band-clean a.f.w a.f.h a.f.r a.from a.to a.element a.work.now b.frame three b.element bytes b.clean c.requires.1 _ refl;
       },
       omega arith,
-      subst (λ (rs : List ℕ). PenRoom a.down a.out.now a.at rs)
+      subst (λ (rs : List ℕ). PenRoom g.P.Pen.down a.out.now a.at rs)
           (band-runs a.f.w a.f.h a.f.r a.from a.to a.element a.work.now b.frame three b.element bytes b.clean c.requires.1 _ refl) c.requires.2,
     )
 
 pub returns : goal.returns
-returns c =
+returns g c =
     let a = c.args in
     let b = c.requires.0 in
     let three : 3 * (a.f.h * a.f.r) ≤ length a.work.now = omega (arith, b.planes) in

@@ -33,17 +33,17 @@ overflow_sub-free c =
     let a = c.args in
     omega (arith, covered_is (goal.at.overflow_sub-free c).After-ink_of-covered, area_le a.f.w a.f.h (image_set a.f.w a.f.h a.block.now))
 
-pub returns-then-free-left : goal.returns-then-free-left
-returns-then-free-left c =
+pub returns-then-free-run : goal.returns-then-free-run
+returns-then-free-run c =
     let a = c.args in
     let q = c.requires in
-    let e = covered_is (goal.at.returns-then-free-left c).After-ink_of-covered in
-    plane_passed (symbols_of a.stream.now) a.at c.ink_of-covered.result a.block.now c.args.f.sheet.frame q.2 e c.if-free-left.true q.3
+    let e = covered_is (goal.at.returns-then-free-run c).After-ink_of-covered in
+    plane_passed (symbols_of a.stream.now) a.run.at c.ink_of-covered.result a.block.now c.args.f.sheet.frame q.2 e c.if-free-run.true q.3
 
 pub loop-y-init : goal.loop-y-init
 loop-y-init c =
     let a = c.args in
-    walk_sized (sym (zero-mul a.f.w)) (walk_none (symbols_of a.stream.now) (plane_place a.f.w a.f.r) a.at a.block.now c.requires.3)
+    walk_sized (sym (zero-mul a.f.w)) (walk_none (symbols_of a.stream.now) (plane_place a.f.w a.f.r) a.run.at a.block.now c.requires.3)
 
 pub place_row-requires : goal.place_row-requires
 unfolding stride

@@ -8,4 +8,4 @@ use Rattle.placing.proofs.place_block.Given as goal
 
 abbrev pub invariant-loop-y : goal.invariant-loop-y
 invariant-loop-y l =
-    PixelsWalked (symbols_of l.stream) l.limit (l.y * l.fn.f.w) (plane_place l.fn.f.w l.fn.f.r) l.left l.at l.initial.block l.block (Some (Run l.k l.j))
+    PixelsWalked (symbols_of l.stream) l.limit (l.y * l.fn.f.w) (plane_place l.fn.f.w l.fn.f.r) l.fn.run.left l.fn.run.at l.initial.block l.block (Some (Run l.run))

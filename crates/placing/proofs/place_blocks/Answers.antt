@@ -9,8 +9,8 @@ use Rattle.coding.specs.Symbols.{symbols_of}
 use Rattle.raster.specs.Frames.{Frame}
 use Rattle.raster.proofs.RowLaws.{rows_in}
 use Rattle.reading.specs.declared.Next.{Next}
-use Rattle.reading.specs.declared.Next.TheVariants.{Run}
 use Rattle.sections.proofs.PlaneLaws.{block-clean, length_from}
+use Rattle.seeking.proofs.OnwardLaws.{run_of}
 use Rattle.placing.specs.Planes.{PixelsWalked, plane_place}
 use Rattle.placing.proofs.PlaneLaws.{frame-pixels, place_after, place-within, rows_more, rows-over, rows-within, sought-clean, walk-lent}
 use Rattle.placing.proofs.WalkLaws.{walk_none, walk_sized}
@@ -25,7 +25,7 @@ fits c =
 
 -- n rows more, lent from the plane
 more : {w h r limit left at k j : ℕ} {s old mid ys : List ℕ} {next : Option Next} (y n : ℕ) → Frame w h r → y * r + n * r ≤ length mid
-    → PixelsWalked s limit (y * w) (plane_place w r) left at old mid (Some (Run k j))
+    → PixelsWalked s limit (y * w) (plane_place w r) left at old mid (Some (run_of k j))
     → PixelsWalked s limit (w * n) (plane_place w r) k j (take (length mid - y * r) (drop (y * r) mid)) ys next
     → PixelsWalked s limit ((y + n) * w) (plane_place w r) left at old (take (y * r) mid ++ (ys ++ drop (length mid - y * r) (drop (y * r) mid))) next
 more {w} {r = r} {mid = mid} y n f h a b =
@@ -37,7 +37,7 @@ more {w} {r = r} {mid = mid} y n f h a b =
 pub loop-y-init : goal.loop-y-init
 loop-y-init c =
     let a = c.args in
-    (omega arith, walk_sized (sym (zero-mul a.f.w)) (walk_none (symbols_of a.stream.now) (plane_place a.f.w a.f.r) a.at a.plane.now c.requires.3))
+    (omega arith, walk_sized (sym (zero-mul a.f.w)) (walk_none (symbols_of a.stream.now) (plane_place a.f.w a.f.r) a.run.at a.plane.now c.requires.3))
 
 pub place_block-requires : goal.place_block-requires
 place_block-requires c =

@@ -5,7 +5,7 @@ use native.Mathlib.Omega.{arith}
 use Rattle.std.specs.Prelude.{Option, Some}
 use Rattle.coding.specs.Symbols.{symbols_of}
 use Rattle.reading.specs.declared.Next.{Next}
-use Rattle.reading.specs.declared.Next.TheVariants.{Run}
+use Rattle.seeking.proofs.OnwardLaws.{run_of}
 use Rattle.placing.specs.Planes.{PixelsWalked, row_place}
 use Rattle.placing.proofs.WalkLaws.{Increasing, walk_more, walk_none, walk-over, walk_sized}
 use Rattle.placing.proofs.place_row.Goals as goal
@@ -16,12 +16,12 @@ rising a i j l = omega arith
 
 -- m pixels after x words
 more : {s : List ℕ} {limit m left at k j : ℕ} {old mid new : List ℕ} {next : Option Next} (a x : ℕ)
-    → PixelsWalked s limit (64 * x) (row_place a) left at old mid (Some (Run k j)) → PixelsWalked s limit m (row_place (a + 8 * x)) k j mid new next
+    → PixelsWalked s limit (64 * x) (row_place a) left at old mid (Some (run_of k j)) → PixelsWalked s limit m (row_place (a + 8 * x)) k j mid new next
     → PixelsWalked s limit (64 * x + m) (row_place a) left at old new next
 more a x p q = walk_more (rising a) (λ i l. omega arith) p q
 
 pub loop-x-init : goal.loop-x-init
-loop-x-init c = walk_none (symbols_of c.args.stream.now) (row_place c.args.a) c.args.at c.args.plane.now c.requires.4
+loop-x-init c = walk_none (symbols_of c.args.stream.now) (row_place c.args.a) c.args.run.at c.args.plane.now c.requires.4
 
 pub returns-in_err-next : goal.returns-in_err-next
 returns-in_err-next c =

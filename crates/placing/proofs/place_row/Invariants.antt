@@ -7,4 +7,4 @@ use Rattle.placing.specs.Planes.{PixelsWalked, row_place}
 use Rattle.placing.proofs.place_row.Given as goal
 
 abbrev pub invariant-loop-x : goal.invariant-loop-x
-invariant-loop-x l = PixelsWalked (symbols_of l.stream) l.limit (64 * l.x) (row_place l.a) l.left l.at l.initial.plane l.plane (Some (Run l.k l.j))
+invariant-loop-x l = PixelsWalked (symbols_of l.stream) l.limit (64 * l.x) (row_place l.a) l.fn.run.left l.fn.run.at l.initial.plane l.plane (Some (Run l.run))

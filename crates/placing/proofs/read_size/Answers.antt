@@ -16,7 +16,7 @@ use Rattle.placing.proofs.read_size.Goals.{After-place_blocks}
 
 -- the walk from the first run on, where it ends with `next`
 walked : (c : After-place_blocks) (next : Option Next) → let a = c.args in
-    PixelsWalked (symbols_of a.stream.now) (a.f.w * a.f.h) (a.f.w * a.f.h) (plane_place a.f.w a.f.r) c.in-Run.left c.in-Run.at a.plane.now c.place_blocks.new.plane next
+    PixelsWalked (symbols_of a.stream.now) (a.f.w * a.f.h) (a.f.w * a.f.h) (plane_place a.f.w a.f.r) c.in-Run.first.left c.in-Run.first.at a.plane.now c.place_blocks.new.plane next
     → ((i : ℕ) → get_or c.place_blocks.new.plane i 0 < 256)
     → SizeRead (symbols_of a.stream.now) a.f.w a.f.h a.at a.plane.now c.place_blocks.new.plane (section_of next)
 walked c next p bytes =
@@ -43,7 +43,7 @@ place_blocks-requires c =
     let s = symbols_of a.stream.now in
     let q = c.requires in
     let e = rw c.in-Run.is at c.in_ok-end.ensures in
-    let k = first_below (a.f.w * a.f.h) c.in-Run.left (drop a.at s) (drop c.in-Run.at s) e.0 in
+    let k = first_below (a.f.w * a.f.h) c.in-Run.first.left (drop a.at s) (drop c.in-Run.first.at s) e.0 in
     (omega (arith, mul-le-mul_left a.f.w q.0), q.1, q.2, k, omega (arith, frame-pixels c.args.f.sheet.frame), omega (arith, k, e.1, frame-pixels c.args.f.sheet.frame, q.3))
 
 pub returns-in_err-end-in-Run : goal.returns-in_err-end-in-Run
@@ -59,4 +59,4 @@ returns-in-Ended-2 c =
 pub returns-in-Run-2 : goal.returns-in-Run-2
 returns-in-Run-2 c =
     let n = c.in-Run-2 in
-    walked (goal.at.returns-in-Run-2 c).After-place_blocks (Some (Run n.left n.at)) (rw n.is at c.in_ok-end-in-Run.ensures) (λ i. (c.type_inv.plane i).fits)
+    walked (goal.at.returns-in-Run-2 c).After-place_blocks (Some (Run n.past)) (rw n.is at c.in_ok-end-in-Run.ensures) (λ i. (c.type_inv.plane i).fits)

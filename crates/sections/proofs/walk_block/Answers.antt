@@ -11,13 +11,13 @@ use Rattle.sections.proofs.PlaneLaws.{frame-few, mask-ones, row_kinds_lem, rows-
 use Rattle.sections.proofs.walk_block.Goals as goal
 
 pub ink_of-covered-requires : goal.ink_of-covered-requires
-ink_of-covered-requires c =
+ink_of-covered-requires g c =
     let a = c.args in
     let m = a.q + a.f.h * a.f.r - a.q in
     omega (arith, length-take-le m (drop a.q a.s.now) (omega (arith, length-drop a.q a.s.now, c.requires.1)), frame-few c.args.f.sheet.frame)
 
 pub overflow_sub-result : goal.overflow_sub-result
-overflow_sub-result c =
+overflow_sub-result g c =
     let a = c.args in
     let m = a.q + a.f.h * a.f.r - a.q in
     let ones = mask-ones a.f.w a.f.h a.f.r a.q m a.s.now c.args.f.sheet.frame (omega arith) (omega (arith, c.requires.1)) (λ i. (c.type_inv.s i).fits) c.requires.2 in
@@ -25,22 +25,22 @@ overflow_sub-result c =
     omega (arith, covered, area_le a.f.w a.f.h (image_set a.f.w a.f.h (drop a.q a.s.now)))
 
 pub returns-then-same_rows : goal.returns-then-same_rows
-returns-then-same_rows c =
+returns-then-same_rows g c =
     let a = c.args in
     let m = a.q + a.f.h * a.f.r - a.q in
     let ones = mask-ones a.f.w a.f.h a.f.r a.q m a.s.now c.args.f.sheet.frame (omega arith) (omega (arith, c.requires.1)) (λ i. (c.type_inv.s i).fits) c.requires.2 in
     let covered = c.ink_of-covered.ensures ∙ ones in
     let t = sym c.same_rows.ensures ∙ c.if-same_rows.true in
-    same_walked a.f.w a.f.h a.q c.ink_of-covered.result a.s.now a.down a.out.now a.pen.at a.pen.run (same_set a.f.w a.f.h a.f.r a.q a.s.now c.args.f.sheet.frame.row t) covered
+    same_walked a.f.w a.f.h a.q c.ink_of-covered.result a.s.now g.P.Pen.down a.out.now a.pen.at a.pen.run (same_set a.f.w a.f.h a.f.r a.q a.s.now c.args.f.sheet.frame.row t) covered
 
 pub loop-y-init : goal.loop-y-init
-loop-y-init c =
+loop-y-init g c =
     let a = c.args in
-    rows_none a.f.w a.f.h a.q a.s.now a.down a.out.now a.pen.at a.pen.run
+    rows_none a.f.w a.f.h a.q a.s.now g.P.Pen.down a.out.now a.pen.at a.pen.run
 
 pub walk_row-pen-requires : goal.walk_row-pen-requires
 unfolding stride
-walk_row-pen-requires c =
+walk_row-pen-requires g c =
     let a = c.args in
     let l = c.loop-y in
     let t = c.loop-y-test.true in
@@ -55,7 +55,7 @@ walk_row-pen-requires c =
     )
 
 pub loop-y-preserved : goal.loop-y-preserved
-loop-y-preserved c =
+loop-y-preserved g c =
     let a = c.args in
     let l = c.loop-y in
     let t = c.loop-y-test.true in

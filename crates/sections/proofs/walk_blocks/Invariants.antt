@@ -6,7 +6,7 @@ use Rattle.sections.proofs.PlaneLaws.{plane_kinds}
 use Rattle.sections.proofs.walk_blocks.Given as goal
 
 abbrev pub invariant-loop-y : goal.invariant-loop-y
-invariant-loop-y l = (l.y ≤ l.fn.f.h) × PenWalked l.down (plane_kinds l.fn.f.w l.fn.f.h l.q l.s (l.y * l.fn.f.w)) l.initial.out l.out l.fn.pen.at l.fn.pen.run l.pen.at l.pen.run
+invariant-loop-y g l = (l.y ≤ l.fn.f.h) × PenWalked g.P.Pen.down (plane_kinds l.fn.f.w l.fn.f.h l.q l.s (l.y * l.fn.f.w)) l.initial.out l.out l.fn.pen.at l.fn.pen.run l.pen.at l.pen.run
 
 abbrev pub decreases-loop-y : goal.decreases-loop-y
-decreases-loop-y l = l.fn.f.h - l.y
+decreases-loop-y g l = l.fn.f.h - l.y

@@ -6,7 +6,7 @@ use Rattle.sections.proofs.PlaneLaws.{room_as, walked_as, word_few}
 use Rattle.sections.proofs.walk_few.Goals as goal
 
 pub walk_word-requires : goal.walk_word-requires
-walk_word-requires c =
+walk_word-requires g c =
     let a = c.args in
     let i = c.load_few in
     let j = c.load_few-2 in
@@ -14,7 +14,7 @@ walk_word-requires c =
     (c.requires.0, c.requires.1, t.0, t.1, c.requires.4, room_as a.pen.run (sym t.2) c.requires.5)
 
 pub returns : goal.returns
-returns c =
+returns g c =
     let a = c.args in
     let i = c.load_few in
     let j = c.load_few-2 in

@@ -6,12 +6,12 @@ use Rattle.sections.proofs.PlaneLaws.{row_on, row_kind, table-count, table_more,
 use Rattle.sections.proofs.walk_row.Goals as goal
 
 pub loop-k-init : goal.loop-k-init
-loop-k-init c =
+loop-k-init g c =
     let a = c.args in
-    table_none (row_kind a.s.now a.a a.b) a.down a.out.now a.pen.at a.pen.run
+    table_none (row_kind a.s.now a.a a.b) g.P.Pen.down a.out.now a.pen.at a.pen.run
 
 pub walk_whole-pen-requires : goal.walk_whole-pen-requires
-walk_whole-pen-requires c =
+walk_whole-pen-requires g c =
     let a = c.args in
     let l = c.loop-k in
     let f = row_kind a.s.now a.a a.b in
@@ -23,7 +23,7 @@ walk_whole-pen-requires c =
     )
 
 pub loop-k-preserved : goal.loop-k-preserved
-loop-k-preserved c =
+loop-k-preserved g c =
     let a = c.args in
     let l = c.loop-k in
     let x = 64 * l.k in
@@ -32,7 +32,7 @@ loop-k-preserved c =
     (table_more (row_kind a.s.now a.a a.b) x 64 (row_on a.s.now a.a a.b x (8 * l.k) 64 (omega arith)) l.invariant c.walk_whole-pen.ensures)
 
 pub walk_few-requires : goal.walk_few-requires
-walk_few-requires c =
+walk_few-requires g c =
     let a = c.args in
     let l = c.loop-k in
     let x = 64 * l.k in
@@ -46,7 +46,7 @@ walk_few-requires c =
     )
 
 pub returns : goal.returns
-returns c =
+returns g c =
     let a = c.args in
     let l = c.loop-k in
     let x = 64 * l.k in

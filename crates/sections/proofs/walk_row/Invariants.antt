@@ -5,4 +5,4 @@ use Rattle.sections.specs.Words.{row_kinds}
 use Rattle.sections.proofs.walk_row.Given as goal
 
 abbrev pub invariant-loop-k : goal.invariant-loop-k
-invariant-loop-k l = PenWalked l.down (row_kinds l.s l.a l.b 0 (64 * l.k)) l.initial.out l.out l.fn.pen.at l.fn.pen.run l.pen.at l.pen.run
+invariant-loop-k g l = PenWalked g.P.Pen.down (row_kinds l.s l.a l.b 0 (64 * l.k)) l.initial.out l.out l.fn.pen.at l.fn.pen.run l.pen.at l.pen.run

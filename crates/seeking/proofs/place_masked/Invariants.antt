@@ -6,8 +6,8 @@ use Rattle.coding.specs.Symbols.{symbols_of}
 use Rattle.seeking.proofs.MaskedLaws.{MaskWalk}
 use Rattle.seeking.proofs.place_masked.Given as goal
 
-abbrev pub invariant-loop-k : goal.invariant-loop-k
-invariant-loop-k l = MaskWalk (symbols_of l.stream) l.limit l.m l.mask l.left l.at l.points l.free l.k l.j × (l.count ≡ ones l.free)
+abbrev pub invariant-loop-run : goal.invariant-loop-run
+invariant-loop-run l = MaskWalk (symbols_of l.stream) l.limit l.m l.mask l.fn.run.left l.fn.run.at l.points l.free l.run.left l.run.at × (l.count ≡ ones l.free)
 
-abbrev pub decreases-loop-k : goal.decreases-loop-k
-decreases-loop-k l = l.free
+abbrev pub decreases-loop-run : goal.decreases-loop-run
+decreases-loop-run l = l.free

@@ -5,7 +5,7 @@ use Rattle.sections.proofs.WordLaws.{Walking}
 use Rattle.sections.proofs.words.walk_word.Given as goal
 
 abbrev pub invariant-loop-left : goal.invariant-loop-left
-invariant-loop-left l = Walking l.down (word_kinds l.m l.ink l.mask) l.initial.out l.out l.fn.pen.at l.fn.pen.run l.j l.k l.top l.left l.rest
+invariant-loop-left g l = Walking g.P.Pen.down (word_kinds l.m l.ink l.mask) l.initial.out l.out l.fn.pen.at l.fn.pen.run l.j l.k l.top l.left l.rest
 
 abbrev pub decreases-loop-left : goal.decreases-loop-left
-decreases-loop-left l = l.left
+decreases-loop-left g l = l.left
