@@ -17,7 +17,7 @@ ghost use Rattle.decoding.specs.Marks.{mark_of};
 ghost use Rattle.decoding.specs.Reads.{StepRead, SizesEnd, CodeRead};
 
 use raster::Frame;
-use refusals::Refusal;
+pub use refusals::Refusal;
 
 // What sizes give: the symbol after them, and whether what they cover, eroded, is what larger sizes cover.
 #[derive(Clone, Copy)]
@@ -37,7 +37,7 @@ fn read_step(f: Frame, element: u32, stream: &[u8], at: usize, work: &mut [u8]) 
     }
     let end = placing::read_size(stream, at, f, &mut work[p..2 * p])?;
     let chained = covers::is_eroded(f, element, work);
-    work.copy_within(p..2 * p, 0);
+    raster::copy_down(work, p, p);
     Some(Joined { at: end, chained })
 }
 
@@ -160,7 +160,7 @@ fn decode_into(
         return Err(refusal);
     }
     let ones = raster::count_ones(&work[..p]);
-    image.copy_from_slice(&work[..p]);
+    raster::copy(&work[..p], image);
     work[..planes].fill(0);
     Ok(ones)
 }

@@ -37,7 +37,7 @@ fn turn(f: Frame, q: usize, element: u32, v: u8, labels: &mut [u8], work: &mut [
     let Frame { h, r, .. } = f;
     let clipped = planes::open_plane(f, q, element, work);
     let points = label_write::label_plane(&work[..], f, q + q, v, labels);
-    work.copy_within(q..q + h * r, 0);
+    raster::copy_down(work, q, h * r);
     Lacked { points, clipped }
 }
 
@@ -118,7 +118,7 @@ pub fn decompose_into(
     ensures clipped { result.clipped ≡ false }
 {
     let Frame { p, .. } = f;
-    work[..p].copy_from_slice(image);
+    raster::copy(image, &mut work[..p]);
     labels.fill(0);
     let found = take_turns(f, element, labels, work);
     iteration::clear_work(p, work);

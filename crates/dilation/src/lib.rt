@@ -14,7 +14,7 @@ ghost use Rattle.dilation.specs.Dilation.{answer_of, dilate_rows, dilated};
 
 use iteration::Inked;
 use raster::Frame;
-use refusals::Refusal;
+pub use refusals::Refusal;
 
 // The rows of the table of refusals that a dilation has.
 fn dilate_refusal(
@@ -39,7 +39,7 @@ fn dilate_into(f: Frame, element: u32, image: &[u8], out: &mut [u8], work: &mut 
     ensures clipped { result.clipped ≡ falls_off f.w f.h (offsets element) (image_set f.w f.h image.now) }
 {
     let Frame { p, .. } = f;
-    work[..p].copy_from_slice(image);
+    raster::copy(image, &mut work[..p]);
     let clipped = iteration::dilate_step(f, element, work);
     Inked {
         area: iteration::hand_out(p, out, work),

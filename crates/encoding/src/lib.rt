@@ -18,7 +18,7 @@ ghost use Rattle.encoding.specs.Sizes.{SizeStart, SizeTurned, SizeStepped, Lengt
 ghost use Rattle.encoding.specs.Sizes.{lacking_runs, open_runs, ink_runs, symbols_below, sizes_answer};
 
 use raster::Frame;
-use refusals::Refusal;
+pub use refusals::Refusal;
 use sections::{Measure, Pen, Write};
 
 // The stream of an image that is not empty: its bytes, and the largest size.
@@ -45,7 +45,7 @@ fn turn<P: Pen>(
     let Frame { h, r, .. } = f;
     planes::open_plane(f, q, element, work);
     let end = sections::walk_plane::<P>(f, q + q, &work[..], at, before, out);
-    work.copy_within(q..q + h * r, 0);
+    raster::copy_down(work, q, h * r);
     end
 }
 
@@ -181,7 +181,7 @@ fn measure_image(
         work.old work.new }
 {
     let Frame { p, .. } = f;
-    work[..p].copy_from_slice(image);
+    raster::copy(image, &mut work[..p]);
     measure(f, element, lengths, work)
 }
 
@@ -202,7 +202,7 @@ fn write_image(
         × (length work.new ≡ length work.old) × (drop (3 * f.p) work.new ≡ drop (3 * f.p) work.old) }
 {
     let Frame { p, .. } = f;
-    work[..p].copy_from_slice(image);
+    raster::copy(image, &mut work[..p]);
     out.fill(0);
     write_sizes(f, element, total, lengths, out, work);
 }

@@ -10,7 +10,6 @@ use borrow.Author.Tests.{ltb-false}
 use lib.Dec.{T, eqb}
 use lib.ListN.{get_or-append, drop, get_or, length, length-append, length-drop, length-take, replicate, take}
 use lib.Seq.{drop_at, drop-drop, get_or-take, length-take-le, take_at}
-use Rattle.std.specs.List.{copy_within}
 use Rattle.morphology.specs.Element.{is_element, offsets}
 use Rattle.morphology.specs.Falls.{falls_off}
 use Rattle.morphology.specs.Image.{clip, image_set, is_clean, on_frame, ones_of, pack, plane_bytes, stride}
@@ -83,10 +82,6 @@ first-start W H p w q h b clean = record { size = refl; first = sym plane; rest 
     plane =
         ap (pack W H) (sym (image_agree W H (take p w) w agree))
         ∙ pack-image W H (take p w) (length-take-le p w (omega arith) ∙ q) (taken p w b) (clean_agree W H w (take p w) (λ j l. sym (agree j l)) clean)
-
--- the n bytes from p to e copied over the first n
-pub copied-down : (p n e : ℕ) (v : List ℕ) → e ≡ p + n → copy_within v p e 0 ≡ take n (drop p v) ++ drop n v
-copied-down p n e v q = ap₂ (λ (i j : ℕ). take i (drop p v) ++ drop j v) (omega arith) (omega arith)
 
 -- a set in the second plane, copied down
 pub step_done : (W H p : ℕ) (S : Point → Bool) (old v new : List ℕ) → p ≡ plane_bytes W H → 2 * p ≤ length old → v ≡ overwrite p (pack W H S) old

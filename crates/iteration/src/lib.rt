@@ -24,7 +24,7 @@ fn erode_step(f: Frame, element: u32, work: &mut [u8])
 {
     let Frame { p, .. } = f;
     planes::erode_plane(f, p, element, work);
-    work.copy_within(p..2 * p, 0);
+    raster::copy_down(work, p, p);
 }
 
 // The first plane dilated in place, by way of the second, and clipped at the frame. Answers whether a point of the dilation fell off.
@@ -35,7 +35,7 @@ pub fn dilate_step(f: Frame, element: u32, work: &mut [u8]) -> bool
 {
     let Frame { p, .. } = f;
     let clipped = planes::dilate_plane(f, p, element, work);
-    work.copy_within(p..2 * p, 0);
+    raster::copy_down(work, p, p);
     clipped
 }
 
@@ -84,7 +84,7 @@ pub fn hand_out(p: usize, out: &mut [u8], work: &mut [u8]) -> u32
     ensures { HandedOut p (take p work.old) result out.new work.old work.new }
 {
     let ones = raster::count_ones(&work[..p]);
-    out.copy_from_slice(&work[..p]);
+    raster::copy(&work[..p], out);
     clear_work(p, work);
     ones
 }

@@ -36,11 +36,15 @@ fn label_byte(s: &[u8], a: usize, b: usize, at: usize, m: usize, v: u8, labels: 
     label_few(left, v, &mut labels[at..at + m])
 }
 
-// The w labels from at on, of the rows at a and at b, by whole bytes and what is left of the last.
+// The w labels from at on, of the rows at a and at b, by whole bytes and what is left of the last. Rows of less than a byte are told apart first: the
+// compiler makes a loop of their own of them.
 fn label_bytes(s: &[u8], a: usize, b: usize, at: usize, w: usize, v: u8, labels: &mut [u8]) -> u32
     requires { (a + (w + 7) / 8 ≤ length s.now) × (b + (w + 7) / 8 ≤ length s.now) × (w ≤ max_frame) × (at + w ≤ length labels.old) }
     ensures { RowLabelled at w (left_at s.now a b) v labels.old labels.new result }
 {
+    if 0 < w && w < 8 {
+        return label_byte(s, a, b, at, w, v, labels);
+    }
     let whole = w / 8;
     let mut n = 0;
     for k in 0..whole {

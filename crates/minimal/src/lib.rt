@@ -15,7 +15,7 @@ ghost use Rattle.refusals.specs.Refusal.{answer_of, refusal_of};
 ghost use Rattle.minimal.specs.Minimised.{Passed, Shortened};
 
 use raster::Frame;
-use refusals::Refusal;
+pub use refusals::Refusal;
 
 // What minimisation leaves: the points, and whether a point of a shape fell off on the way.
 #[derive(Clone, Copy)]

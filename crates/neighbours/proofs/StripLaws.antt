@@ -13,6 +13,7 @@ use lib.Pow.{shr-shr}
 use lib.Seq.{length-take-le}
 use Rattle.morphology.specs.Element.{bit}
 use Rattle.raster.specs.Frames.{Frame}
+use Rattle.raster.specs.Limits.{max_stride}
 use Rattle.raster.proofs.PackLaws.{frame_row}
 use Rattle.raster.specs.Rows.{Pixelwise, PlaneIs, RowJoined, join, read_bit, row_bit}
 use Rattle.raster.proofs.PartLaws.{PartIs, cut-bit, part_back, part-bit}
@@ -31,14 +32,21 @@ min_less a b = by (dec_le a b)
     by (yes l) = min-eq_left l ∙ omega arith
     by (no l) = min_comm a b ∙ min-eq_left (omega arith) ∙ omega arith
 
--- as many rows as a strip of 2048 bytes has room for, of q that are left
-pub strip-rows : {w h r : ℕ} (q n : ℕ) → Frame w h r → 0 < q → n ≡ min (2048 / r) q → (0 < n) × (n ≤ q) × ((n + 4) * r ≤ 2560)
+-- bytes of a strip, and of its rows with the two above and the two below
+abbrev pub strip_bytes : ℕ
+strip_bytes = 2048
+
+abbrev pub near_bytes : ℕ
+near_bytes = strip_bytes + 4 * max_stride
+
+-- as many rows as a strip has room for, of q that are left
+pub strip-rows : {w h r : ℕ} (q n : ℕ) → Frame w h r → 0 < q → n ≡ min (strip_bytes / r) q → (0 < n) × (n ≤ q) × ((n + 4) * r ≤ near_bytes)
 strip-rows {w} {h} {r} q n f l e =
     let k = frame_row f in
-    let some : 1 ≤ 2048 / r = (le-div_iff_mul-le k.2).1 (omega (arith, k.3)) in
-    let most : n ≤ 2048 / r = omega arith in
-    let u : n * r ≤ 2048 / r * r = mul-le-mul_right r most in
-    (omega arith, omega arith, omega (arith, add-mul n 4 r, u, div-mul-le_self 2048 r, k.3))
+    let some : 1 ≤ strip_bytes / r = (le-div_iff_mul-le k.2).1 (omega (arith, k.3)) in
+    let most : n ≤ strip_bytes / r = omega arith in
+    let u : n * r ≤ strip_bytes / r * r = mul-le-mul_right r most in
+    (omega arith, omega arith, omega (arith, add-mul n 4 r, u, div-mul-le_self strip_bytes r, k.3))
 
 -- a pixel of row a + b
 rows_at : (a b r x : ℕ) → 8 * (a * r) + (8 * (b * r) + x) ≡ 8 * ((a + b) * r) + x

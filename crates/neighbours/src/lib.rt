@@ -33,7 +33,7 @@ fn load_near(plane: &[u8], r: usize, h: usize, y: usize, n: usize, buf: &mut [u8
     let rows = (y + n + 2).min(h) - from;
     let at = blank * r + 1;
     let a = from * r;
-    buf[at..at + rows * r].copy_from_slice(&plane[a..a + rows * r]);
+    raster::copy(&plane[a..a + rows * r], &mut buf[at..at + rows * r]);
 }
 
 // Each pixel x of dst becomes pixel x + s of buf.

@@ -15,7 +15,7 @@ use native.Mathlib.Omega.{arith}
 use borrow.Author.Tests.{le-leb, lt-ltb}
 use lib.Dec.{T, eqb, eqb→eq, ltb}
 use Rattle.morphology.specs.Element.{bit}
-use Rattle.raster.specs.Rows.{PlaneIs, join, row_bit}
+use Rattle.raster.specs.Rows.{PlaneIs, RowIs, join, row_bit}
 use Rattle.raster.proofs.PartLaws.{PartIs, part_back, part-bit}
 use Rattle.raster.proofs.RowLaws.{row_in}
 use Rattle.neighbours.specs.Neighbours.{PlaneJoined, five_of, joined, near_bit, neighbours, turned}
@@ -139,7 +139,7 @@ pub origin-bit : (e : ℕ) → T (bit e 12) → e / 4096 % 2 ≡ 1
 origin-bit e t = eqb→eq (e / 2 ^ 12 % 2) 1 t
 
 -- a plane begun with the first one
-pub begun_copy : (t : Bool) (p r h e n : ℕ) (old new : List ℕ) → n ≡ h * r → e / 4096 % 2 ≡ 1 → PartIs p n old old new
+pub begun_copy : (t : Bool) (p r h e n : ℕ) (old new : List ℕ) → n ≡ h * r → e / 4096 % 2 ≡ 1 → RowIs p n old new (row_bit old)
     → Begun t p r h e (e - 4096) old new
 begun_copy t p r h e n old new en o m = record {
   size = m.size;
@@ -149,7 +149,7 @@ begun_copy t p r h e n old new en o m = record {
       let i = row_in y h r (h * r) ly (le_refl (h * r)) in
       let z : 8 * (p + y * r) + x ≡ 8 * p + (8 * (y * r) + x) = omega arith in
       ap (λ (b : Bool). join t b (neighbours t (e - 4096) (near_bit old r h) x y))
-      (ap (row_bit new) z ∙ part-bit m (8 * (y * r) + x) (omega (arith, i)) ∙ sym (near_itself old r h x y ly lx))
+      (ap (row_bit new) z ∙ m.pixels (8 * (y * r) + x) (omega (arith, i)) ∙ sym (near_itself old r h x y ly lx))
       ∙ origin_less t e (near_bit old r h) x y o;
 }
 

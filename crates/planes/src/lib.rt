@@ -19,7 +19,7 @@ fn begin_plane(work: &mut [u8], q: usize, f: Frame, element: u32) -> u32
     ensures { (t : Bool) → Begun t q f.r f.h element result work.old work.new }
 {
     let Frame { h, r, .. } = f;
-    work.copy_within(..h * r, q);
+    raster::copy_up(work, q, h * r);
     element - elements::ORIGIN
 }
 

@@ -1,17 +1,18 @@
--- Buffers tested for ink and compared, element by element; padding.
+-- Buffers copied, tested for ink and compared, element by element; padding.
 use mathlib.Core.Bool.{Bool, ◌&&◌, ◌||◌, false, not, or_assoc, or-false}
-use mathlib.Core.List.{List, Memᴰ, [], ◌∷◌}
+use mathlib.Core.List.{List, Memᴰ, [], ◌++◌, ◌∷◌}
 use mathlib.Core.Path.{◌∙◌, ◌≡◌, ap, ap₂, refl, subst, sym}
 use Prim.Native.Nat.{◌%◌, ◌*◌, ◌+◌, ◌-◌, ◌/◌, ◌<◌, ◌^◌, ◌≤◌, suc, zero, ℕ}
-use native.Mathlib.Decide.{ℕ_discrete}
+use native.Mathlib.Decide.{dec_lt, ℕ_discrete}
 use native.Mathlib.Nat.{add-suc, add-zero, le_of_suc-le-suc, mod-lt, mod-one, not-suc-le-zero, suc-add, zero-add, zero-lt-suc}
 use native.Mathlib.Numerals.{add-one}
 use native.Mathlib.Omega.{arith}
 use borrow.Author.Tests.{eq-eqb, ne_eqb}
 use lib.Bits.{and_le_l, and_le_r, bit_or, bit_xor, or_add_and, or_zero_l, xor_add_and, xor_self}
 use lib.Dec.{T, eqb}
-use lib.ListN.{get_or, length, take}
+use lib.ListN.{get_or-append, drop, get_or, length, length-append, length-drop, take}
 use lib.Pow.{mod-pow-add, pow_pos}
+use lib.Seq.{ext_get_or, get_or-append-add, get_or-drop, get_or-take, length-take-le}
 use Rattle.morphology.specs.Element.{bit}
 use Rattle.morphology.specs.Image.{bit_of, is_clean, pixel, stride}
 use Rattle.morphology.specs.Lists.{every_of, some_of, tabulate, up_to}
@@ -20,6 +21,29 @@ use Rattle.morphology.proofs.ImageLaws.{mem-row}
 use Rattle.morphology.proofs.TestLaws.{T_ext, all-out}
 use Rattle.raster.specs.Limits.{max_frame, max_stride}
 use Rattle.raster.proofs.ByteLaws.{below8}
+use Rattle.raster.proofs.LoopLaws.{Mapped}
+
+-- ---- copies
+
+pub copied : (src old new : List ℕ) (i : ℕ) → length src ≡ length old → length old ≤ i → Mapped (λ j. get_or src j 0) old new i → new ≡ src
+copied src old new i e h m = ext_get_or 0 new src (m.size ∙ sym e) (λ j l. m.done j (omega (arith, m.size)))
+
+-- the n elements at p copied over the first n
+pub copied-down : (p n : ℕ) (old new : List ℕ) → n ≤ p → p + n ≤ length old → Mapped (λ j. get_or old (p + j) 0) old new n
+    → new ≡ take n (drop p old) ++ drop n old
+copied-down p n old new np h m =
+    let a : List ℕ = take n (drop p old) in
+    let la : length a ≡ n = length-take-le n (drop p old) (omega (arith, length-drop p old)) in
+    ext_get_or 0 new (a ++ drop n old) (m.size ∙ sym (simp length-append (omega (arith, la, length-drop n old)))) (λ i l. by i (dec_lt i n) la)
+  where
+    by : (i : ℕ) → Dec (i < n) → length (take n (drop p old)) ≡ n → get_or new i 0 ≡ get_or (take n (drop p old) ++ drop n old) i 0
+    by i (yes k) la =
+        m.done i k
+        ∙ sym (get_or-append (take n (drop p old)) (drop n old) 0 i (omega arith) ∙ get_or-take n (drop p old) i 0 k ∙ get_or-drop p old i 0)
+    by i (no k) la =
+        m.rest i (omega arith)
+        ∙ sym (ap (λ (j : ℕ). get_or (take n (drop p old) ++ drop n old) j 0) (omega (arith, la))
+        ∙ get_or-append-add (take n (drop p old)) (drop n old) (i - n) 0 ∙ get_or-drop n old (i - n) 0 ∙ ap (λ (j : ℕ). get_or old j 0) (omega arith))
 
 -- ---- ink
 

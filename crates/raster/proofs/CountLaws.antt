@@ -1,13 +1,15 @@
 -- Ones of a list of bytes: of parts of it, of words made of it, of words added place by place.
 use mathlib.Core.List.{List, [], ◌++◌, ◌∷◌}
-use mathlib.Core.Path.{◌∙◌, ◌≡◌, ap, ap₂, refl, sym}
-use Prim.Native.Nat.{◌%◌, ◌*◌, ◌+◌, ◌/◌, ◌<◌, ◌^◌, suc, zero, ℕ}
+use mathlib.Core.Path.{◌∙◌, ◌≡◌, ap, ap₂, refl, subst, sym}
+use Prim.Native.Nat.{◌%◌, ◌*◌, ◌+◌, ◌/◌, ◌<◌, ◌^◌, ◌≤◌, suc, zero, ℕ}
 use native.Mathlib.Nat.{add_assoc, add_comm, add-zero, mul-suc, mul-zero, pow-suc, suc-add, suc-mul, zero-add, zero-mul}
+use native.Mathlib.Numerals.{one-add}
 use native.Mathlib.Omega.{arith}
 use lib.Bits.{and_mod, and_shr, bit_and, bit_or, bit_xor, or_mod, or_shr, xor_mod, xor_shr}
 use lib.Count.{ones, ones_cat, ones_step}
-use lib.ListN.{drop, get_or, length, take}
-use lib.Seq.{drop-cons, drop-drop, take-add, take-length}
+use lib.ListN.{drop, get_or, length, length-drop, take}
+use lib.Pow.{pow-add}
+use lib.Seq.{drop-cons, drop-drop, length-take-le, take-add, take-length}
 use Rattle.std.specs.Int.{from_le_bytes, w64}
 use Rattle.std.specs.Simd.{first_chunks}
 use Rattle.morphology.specs.Image.{ones_of}
@@ -39,6 +41,11 @@ ones-part l o i k = rw (← drop-drop i o l) (ones_more (drop o l) i k)
 
 -- ---- words
 
+-- a byte
+pub gathered_byte : {l : List ℕ} {i v : ℕ} → i < length l → v ≡ get_or l i 0 → v < 256 → Gathered l i 1 v
+unfolding ones_of
+gathered_byte {l} {i} {v} h e b = record { fits = b; same = rw (drop-cons l i 0) (ap ones e ∙ sym (add-zero (ones (get_or l i 0)))) }
+
 -- two numbers side by side
 pub gathered_both : {l : List ℕ} {i j k a b : ℕ} → b * 2 ^ (8 * j) + a < 2 ^ (8 * (j + k)) → Gathered l i j a → Gathered l (i + j) k b
     → Gathered l i (j + k) (b * 2 ^ (8 * j) + a)
@@ -50,12 +57,18 @@ number : List ℕ → ℕ
 number [] = 0
 number (b ∷ l) = number l * 2 ^ 8 + b
 
--- its ones are theirs
-ones-number : (l : List ℕ) → ((j : ℕ) → get_or l j 0 < 256) → ones (number l) ≡ ones_of l
+-- it has their ones: the first byte, and the number of the others beside it
+gathered_number : {l : List ℕ} (i k : ℕ) → i + k ≤ length l → ((j : ℕ) → get_or l j 0 < 256) → Gathered l i k (number (take k (drop i l)))
 unfolding number ones_of ones
-ones-number [] h = refl
-ones-number (b ∷ l) h = ones_cat 8 (number l) b (h 0) ∙ add_comm (ones (number l)) (ones b) ∙ ap (λ (n : ℕ). ones b + n) (ones-number l (λ j. h (suc j)))
+gathered_number {l} i zero h b = record { fits = omega arith; same = refl }
+gathered_number {l} i (suc k) h b =
+    let y = gathered_number {l = l} (i + 1) k (omega arith) b in
+    let e : 8 * (1 + k) ≡ 8 * k + 8 = omega arith in
+    let q = ap (λ (n : ℕ). 2 ^ n) e ∙ pow-add 2 (8 * k) 8 in
+    let n : suc i ≡ i + 1 = omega arith in
+    rw (drop-cons l i 0 (omega arith), n) (rw (one-add k) at (gathered_both {j = 1} (omega (arith, q, b i)) (gathered_byte (omega arith) refl (b i)) y))
 
+-- the library's number of eight bytes
 number-word : (l : List ℕ) → length l ≡ 8 → from_le_bytes w64 l ≡ number l
 unfolding number
 number-word [] q = absurd (omega arith)
@@ -69,8 +82,15 @@ number-word (a ∷ b ∷ c ∷ d ∷ e ∷ f ∷ g ∷ []) q = absurd (omega ari
 number-word (a ∷ b ∷ c ∷ d ∷ e ∷ f ∷ g ∷ h ∷ []) q = omega arith
 number-word (a ∷ b ∷ c ∷ d ∷ e ∷ f ∷ g ∷ h ∷ x ∷ l) q = absurd (omega arith)
 
+-- a word of the bytes from i on
+pub gathered_word : {l : List ℕ} {i : ℕ} → i + 8 ≤ length l → ((j : ℕ) → get_or l j 0 < 256) → Gathered l i 8 (from_le_bytes w64 (take 8 (drop i l)))
+gathered_word {l} {i} h b = rw (number-word (take 8 (drop i l)) (length-take-le 8 (drop i l) (omega (arith, length-drop i l)))) (gathered_number i 8 h b)
+
+-- a word of all bytes
 pub ones-word : (l : List ℕ) → length l ≡ 8 → ((j : ℕ) → get_or l j 0 < 256) → ones (from_le_bytes w64 l) ≡ ones_of l
-ones-word l q h = ap ones (number-word l q) ∙ ones-number l h
+ones-word l q h =
+    let whole : take 8 (drop 0 l) ≡ l = ap (λ (n : ℕ). take n l) (sym q) ∙ take-length l in
+    subst (λ (s : List ℕ). ones (from_le_bytes w64 s) ≡ ones_of s) whole (gathered_word {l = l} {i = 0} (omega arith) h).same
 
 -- piece k of n bytes each
 pub chunk-at : (n m k : ℕ) (l : List ℕ) → k < m → get_or (first_chunks n m l) k [] ≡ take n (drop (n * k) l)

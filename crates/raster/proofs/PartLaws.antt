@@ -1,10 +1,11 @@
 -- A whole whose part, lent, has come back.
-use mathlib.Core.Path.{◌∙◌, ◌≡◌, ap, ap₂, subst, sym}
+use mathlib.Core.Path.{◌∙◌, ◌≡◌, ap, ap₂, refl, subst, sym}
 use mathlib.Core.Bool.{Bool, ◌&&◌, and-true}
 use mathlib.Core.List.{List, [], ◌++◌, append_assoc, append-nil}
 use Prim.Native.Nat.{◌%◌, ◌*◌, ◌+◌, ◌-◌, ◌/◌, ◌<◌, ◌^◌, ◌≤◌, ℕ}
 use native.Mathlib.Decide.{dec_lt}
-use native.Mathlib.Nat.{add_assoc, zero-add}
+use native.Mathlib.Nat.{add_assoc, not-suc-le-zero, zero-add}
+use borrow.Author.Count.{below_more}
 use native.Mathlib.Omega.{arith}
 use borrow.Author.Tests.{le-leb, le-ltb, lt-ltb}
 use lib.Dec.{leb, lit<, ltb}
@@ -40,6 +41,23 @@ part_back a k old ys h e =
           right j (omega arith) ∙ get_or_right ys (drop k (drop a old)) (j - a) (omega arith)
           ∙ get_or-drop k (drop a old) (j - a - length ys) 0 ∙ get_or-drop a old (k + (j - a - length ys)) 0
           ∙ ap (λ (m : ℕ). get_or old m 0) (omega arith);
+    }
+
+-- no element of the part, and one more
+pub part_none : (a : ℕ) (old ys : List ℕ) → PartIs a 0 old ys old
+part_none a old ys = record { size = refl; within = λ j l. absurd (not-suc-le-zero l); before = λ j l. refl; after = λ j l. refl }
+
+pub part_more : (a k v : ℕ) (old ys new : List ℕ) → a + k < length old → v ≡ get_or ys k 0 → PartIs a k old ys new
+    → PartIs a (k + 1) old ys (set new (a + k) v)
+part_more a k v old ys new h e m =
+    let hl : a + k < length new = omega (arith, m.size) in
+    record {
+      size = length-set new (a + k) v ∙ m.size;
+      within = below_more (λ (j : ℕ). get_or (set new (a + k) v) (a + j) 0 ≡ get_or ys j 0) k
+          (λ j lt. get_or-set_other new (a + k) (a + j) v 0 (λ p. omega arith) ∙ m.within j lt)
+          (get_or-set_same new (a + k) v 0 hl ∙ e);
+      before = λ j lt. get_or-set_other new (a + k) j v 0 (λ p. omega arith) ∙ m.before j lt;
+      after = λ j le. get_or-set_other new (a + k) j v 0 (λ p. omega arith) ∙ m.after j (omega arith);
     }
 
 -- what is before a part, and after it

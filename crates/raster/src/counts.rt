@@ -1,8 +1,8 @@
 // Ones counted by words of eight bytes, seven words at a time.
-ghost use Rattle.std.specs.Prelude.{◌≡◌, ◌+◌, ◌*◌, ◌%◌, ◌<◌, ◌≤◌, ◌^◌, length, take, drop};
+ghost use Rattle.std.specs.Prelude.{◌≡◌, ◌+◌, ◌*◌, ◌%◌, ◌<◌, ◌≤◌, ◌^◌, length, take};
 ghost use Rattle.std.specs.Int.Count.{ones};
 ghost use Rattle.morphology.specs.Image.{ones_of};
-ghost use Rattle.raster.specs.Counts.{ones_apart};
+ghost use Rattle.raster.specs.Counts.{Gathered, ones_apart};
 
 // The ones of three words at each of their 64 places, as a number of two binary digits.
 #[derive(Clone, Copy)]
@@ -21,7 +21,7 @@ fn count_word(v: u64) -> u64
 // The eight bytes from i on as one number: the compiler makes one load of them.
 fn word(s: &[u8], i: usize) -> u64
     requires { i + 8 ≤ length s.now }
-    ensures { ones result ≡ ones_of (take 8 (drop i s.now)) }
+    ensures { Gathered s.now i 8 result }
 {
     u64::from_le_bytes(s[i..i + 8].try_into().unwrap())
 }

@@ -99,6 +99,36 @@ pub fn is_ink(byte: u8, k: usize) -> bool
     (byte & bit) != 0
 }
 
+// dst becomes src.
+pub fn copy(src: &[u8], dst: &mut [u8])
+    requires { length src.now ≡ length dst.old }
+    ensures { dst.new ≡ src.now }
+{
+    for i in 0..dst.len() {
+        dst[i] = src[i];
+    }
+}
+
+// The n bytes at p copied over the first n.
+pub fn copy_down(work: &mut [u8], p: usize, n: usize)
+    requires { (n ≤ p) × (p + n ≤ length work.old) }
+    ensures { work.new ≡ take n (drop p work.old) ++ drop n work.old }
+{
+    for i in 0..n {
+        work[i] = work[p + i];
+    }
+}
+
+// The first n bytes copied to p.
+pub fn copy_up(work: &mut [u8], p: usize, n: usize)
+    requires { (n ≤ p) × (p + n ≤ length work.old) }
+    ensures { RowIs p n work.old work.new (row_bit work.old) }
+{
+    for i in 0..n {
+        work[p + i] = work[i];
+    }
+}
+
 // Takes the foreground of src out of dst.
 pub fn subtract(src: &[u8], dst: &mut [u8])
     requires { length src.now ≡ length dst.old }

@@ -15,7 +15,7 @@ ghost use Rattle.skeleton.specs.Decomposed.{answer_of as decomposed_answer};
 use iteration::Inked;
 use raster::Frame;
 use reconstruction::reconstruct_into;
-use refusals::Refusal;
+pub use refusals::Refusal;
 
 // The points and the largest size of an image that is not empty.
 #[derive(Clone, Copy, Debug, PartialEq, Eq)]
@@ -58,7 +58,7 @@ fn fold_into(
     ensures clipped { result.clipped ≡ false }
 {
     let Frame { p, .. } = f;
-    work[..p].copy_from_slice(image);
+    raster::copy(image, &mut work[..p]);
     iteration::erode_times(f, element, erosions, work);
     let clipped = iteration::dilate_times(f, element, dilations, work);
     Inked {

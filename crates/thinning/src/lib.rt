@@ -16,7 +16,7 @@ ghost use Rattle.thinning.specs.Passes.{Leaves, Ended};
 ghost use Rattle.thinning.specs.Thinned.{answer_of as thinned_answer};
 
 use raster::{Frame, Join};
-use refusals::Refusal;
+pub use refusals::Refusal;
 
 // The answer of thinning: passes made with the idle one, points removed, area left.
 #[derive(Clone, Copy, Debug, PartialEq, Eq)]
@@ -69,7 +69,7 @@ fn hit_plane(f: Frame, mask: Mask, image: &[u8], out: &mut [u8])
     requires { (length image.now ≡ f.h * f.r) × (length out.old ≡ f.h * f.r) × T (is_mask (mask.fg, mask.bg)) × T (is_clean f.w f.h image.now) }
     ensures { out.new ≡ pack f.w f.h (hit f.w f.h (mask.fg, mask.bg) (image_set f.w f.h image.now)) }
 {
-    out.copy_from_slice(image);
+    raster::copy(image, out);
     let ink = Join {
         dilating: false,
         inverse: false,

@@ -29,4 +29,4 @@ returns c =
     let same = ap (λ (p : ℕ). take p c.read_code-read.new.work) bytes in
     outcome_read d a.image.now _
     (code-cleared a.f.w a.f.h _ a.work.now _ _ bytes d.kept (omega (arith, bytes, d.kept.size, c.requires.2)) (c.fill-2.ensures.after (λ y e. e))) _ _ refl
-    (c.count_ones-ones.ensures ∙ ap ones_of same) (c.copy_from_slice.ensures.after ∙ same)
+    (c.count_ones-ones.ensures ∙ ap ones_of same) (c.copy.ensures ∙ same)

@@ -1,11 +1,10 @@
 -- `decoding::read_step` meets its contract.
 use mathlib.Core.Logic.{inl, inr}
 use mathlib.Core.List.{◌++◌}
-use mathlib.Core.Path.{◌∙◌, ◌≡◌, refl, sym}
+use mathlib.Core.Path.{◌∙◌, refl, sym}
 use Prim.Native.Nat.{◌*◌, ◌-◌}
 use native.Mathlib.Omega.{arith}
 use lib.ListN.{drop, take}
-use Rattle.std.proofs.lemmas.Grind.{common_steps}
 use Rattle.coding.specs.Symbols.{symbols_of}
 use Rattle.morphology.specs.Element.{offsets}
 use Rattle.morphology.specs.Image.{image_set}
@@ -58,6 +57,5 @@ returns c =
     let a = c.args in
     let f = found (goal.at.returns c).In_ok-end in
     let s = symbols_of a.stream.now in
-    let down : c.copy_within.new.self ≡ take a.f.p (drop a.f.p c.is_eroded-chained.new.work) ++ drop a.f.p c.is_eroded-chained.new.work = grind (arith, common_steps) in
     step_done c.requires.0 (sym c.grow.ensures.answer ∙ c.if-grow.false) (drop a.at s) f.points (drop c.in_ok-end.end s) f.reads f.second a.at c.in_ok-end.end
-    c.is_eroded-chained.ensures down f.near s refl refl
+    c.is_eroded-chained.ensures c.copy_down.ensures f.near s refl refl

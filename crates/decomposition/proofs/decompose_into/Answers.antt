@@ -13,7 +13,7 @@ take_turns-found-requires c =
     let a = c.args in
     let k = c.args.f.sheet in
     let q = sheet-bytes k in
-    let v = loaded a.f.w a.f.h a.f.p a.image.now a.image.now a.work.now _ q c.requires.0 c.copy_from_slice.ensures.after in (
+    let v = loaded a.f.w a.f.h a.f.p a.image.now a.image.now a.work.now _ q c.requires.0 c.copy.ensures in (
       c.requires.1,
       c.requires.2,
       omega (arith, v.size, c.requires.0.work, q),
@@ -27,11 +27,11 @@ returns c =
     let a = c.args in
     let q = sheet-bytes c.args.f.sheet in
     let p = a.f.p in
-    let v = loaded a.f.w a.f.h p a.image.now a.image.now a.work.now _ q c.requires.0 c.copy_from_slice.ensures.after in
+    let v = loaded a.f.w a.f.h p a.image.now a.image.now a.work.now _ q c.requires.0 c.copy.ensures in
     let t = c.take_turns-found.ensures.turns in
     record {
       done = finished_as v.set t.finished;
       work = c.clear_work.ensures
-          ∙ rest-cleared a.f.w a.f.h p a.image.now a.work.now _ c.take_turns-found.new.work q (c.requires.0.image ∙ sym q) c.copy_from_slice.ensures.after t.rest;
+          ∙ rest-cleared a.f.w a.f.h p a.image.now a.work.now _ c.take_turns-found.new.work q (c.requires.0.image ∙ sym q) c.copy.ensures t.rest;
       clipped = c.take_turns-found.ensures.clipped;
     }

@@ -1,9 +1,5 @@
 -- `decomposition::turn` meets its contract. An opening, the labels of what it lacks, and the erosion copied down are one turn.
-use mathlib.Core.Path.{◌∙◌}
-use Prim.Native.Nat.{◌*◌, ◌+◌}
-use native.Mathlib.Omega.{arith}
 use Rattle.morphology.proofs.ElementLaws.{element-bit}
-use Rattle.iteration.proofs.StepLaws.{copied-down}
 use Rattle.decomposition.proofs.TurnLaws.{turn_done}
 use Rattle.decomposition.proofs.turn.Goals as goal
 
@@ -14,7 +10,5 @@ open_plane-clipped-requires c =
 pub returns-clause-turn : goal.returns-clause-turn
 returns-clause-turn c =
     let a = c.args in
-    let v = c.open_plane-clipped.new.work in
     turn_done a.f.w a.f.h a.f.r a.q a.element a.work.now c.requires.frame c.requires.apart c.requires.planes _ _ a.labels.now _ a.v _
-    c.open_plane-clipped.ensures.planes c.label_plane-points.ensures
-    (c.copy_within.ensures.after ∙ copied-down a.q (a.f.h * a.f.r) (a.q + a.f.h * a.f.r) v (omega arith))
+    c.open_plane-clipped.ensures.planes c.label_plane-points.ensures c.copy_down.ensures

@@ -1,10 +1,9 @@
 -- `encoding::turn` meets its contract. The plane is opened, its runs that the opening lacks are walked, and the erosion is copied down.
-use mathlib.Core.List.{List, ◌++◌}
-use mathlib.Core.Path.{◌≡◌, sym, subst}
+use mathlib.Core.List.{List}
+use mathlib.Core.Path.{sym, subst}
 use native.Mathlib.Omega.{arith}
 use borrow.Author.Rules.{rules}
-use Prim.Native.Nat.{◌*◌, ℕ}
-use lib.ListN.{drop, take}
+use Prim.Native.Nat.{ℕ}
 use Rattle.morphology.proofs.ElementLaws.{element-bit}
 use Rattle.iteration.proofs.OpenLaws.{opened-clean, opened-down}
 use Rattle.sections.specs.Pens.{PenRoom}
@@ -33,11 +32,8 @@ pub returns : goal.returns
 returns g c =
     let a = c.args in
     let t = c.requires.0 in
-    let n = a.f.h * a.f.r in
-    let w = c.open_plane.new.work in
-    let down : c.copy_within.new.self ≡ take n (drop a.q w) ++ drop n w = search rules in
     record {
-      planes = opened-down a.f.w a.f.h a.f.r a.q a.element a.work.now t.frame t.apart t.planes _ c.open_plane.ensures.planes _ down;
+      planes = opened-down a.f.w a.f.h a.f.r a.q a.element a.work.now t.frame t.apart t.planes _ c.open_plane.ensures.planes _ c.copy_down.ensures;
       runs =
           marked_as (opened-runs a.f.w a.f.h a.f.r a.q a.element a.work.now t.frame t.apart t.planes _ c.open_plane.ensures.planes a.before)
           c.walk_plane-end.ensures;

@@ -16,7 +16,7 @@ pub write_sizes-requires : goal.write_sizes-requires
 write_sizes-requires c =
     let a = c.args in
     let q = sheet-bytes c.args.f.sheet in
-    let v = loaded a.f.w a.f.h a.f.p a.image.now a.image.now a.work.now _ q c.requires.0 c.copy_from_slice.ensures.after in (
+    let v = loaded a.f.w a.f.h a.f.p a.image.now a.image.now a.work.now _ q c.requires.0 c.copy.ensures in (
       omega (arith, v.size, c.requires.0.work, q),
       c.requires.1,
       c.requires.2,
@@ -31,9 +31,9 @@ pub returns : goal.returns
 returns c =
     let a = c.args in
     let q = sheet-bytes c.args.f.sheet in
-    let v = loaded a.f.w a.f.h a.f.p a.image.now a.image.now a.work.now _ q c.requires.0 c.copy_from_slice.ensures.after in
+    let v = loaded a.f.w a.f.h a.f.p a.image.now a.image.now a.work.now _ q c.requires.0 c.copy.ensures in
     let e = c.write_sizes.ensures in (
       e.0 ∙ ap (λ (X : Point → Bool). pack_symbols (symbols_below (eroded_runs a.f.w a.f.h (offsets a.element) X) a.total.sizes)) v.set,
       e.1 ∙ v.size,
-      e.2 ∙ loaded-rest a.f.p (3 * a.f.p) a.image.now a.work.now _ (omega arith) (c.requires.0.image ∙ sym q) c.copy_from_slice.ensures.after,
+      e.2 ∙ loaded-rest a.f.p (3 * a.f.p) a.image.now a.work.now _ (omega arith) (c.requires.0.image ∙ sym q) c.copy.ensures,
     )

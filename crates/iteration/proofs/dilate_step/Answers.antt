@@ -1,9 +1,7 @@
 -- `iteration::dilate_step` meets its contract. The dilation of the first plane, copied down, is the next first plane.
-use mathlib.Core.Path.{◌∙◌}
-use Prim.Native.Nat.{◌*◌}
 use native.Mathlib.Omega.{arith}
 use Rattle.morphology.proofs.ElementLaws.{element-bit}
-use Rattle.iteration.proofs.StepLaws.{copied-down, sheet-bytes, step_done}
+use Rattle.iteration.proofs.StepLaws.{sheet-bytes, step_done}
 use Rattle.iteration.proofs.dilate_step.Goals as goal
 
 pub dilate_plane-clipped-requires : goal.dilate_plane-clipped-requires
@@ -15,4 +13,4 @@ returns-clause-plane c =
     let a = c.args in
     let v = c.dilate_plane-clipped.new.work in
     step_done a.f.w a.f.h a.f.p _ a.work.now v _ (sheet-bytes c.args.f.sheet) c.requires.0 c.dilate_plane-clipped.ensures.plane
-    (c.copy_within.ensures.after ∙ copied-down a.f.p a.f.p (2 * a.f.p) v (omega arith))
+    c.copy_down.ensures

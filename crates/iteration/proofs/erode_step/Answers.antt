@@ -1,9 +1,7 @@
 -- `iteration::erode_step` meets its contract. The erosion of the first plane, copied down, is the next first plane.
-use mathlib.Core.Path.{◌∙◌}
-use Prim.Native.Nat.{◌*◌}
 use native.Mathlib.Omega.{arith}
 use Rattle.morphology.proofs.ElementLaws.{element-bit}
-use Rattle.iteration.proofs.StepLaws.{copied-down, sheet-bytes, step_done}
+use Rattle.iteration.proofs.StepLaws.{sheet-bytes, step_done}
 use Rattle.iteration.proofs.erode_step.Goals as goal
 
 pub erode_plane-requires : goal.erode_plane-requires
@@ -19,4 +17,4 @@ returns c =
     let a = c.args in
     let v = c.erode_plane.new.work in
     step_done a.f.w a.f.h a.f.p _ a.work.now v _ (sheet-bytes c.args.f.sheet) c.requires.0 c.erode_plane.ensures
-    (c.copy_within.ensures.after ∙ copied-down a.f.p a.f.p (2 * a.f.p) v (omega arith))
+    c.copy_down.ensures

@@ -25,7 +25,7 @@ pub overflow_add-result : goal.overflow_add-result
 overflow_add-result c =
     let a = c.args in
     let k = a.w / 8 in
-    omega (arith, c.loop-k.invariant.points, count-up_to (left_at a.s.now a.a a.b) (8 * c.loop-k.k), c.label_byte.ensures.points, count-up_to (left_at a.s.now (a.a + k) (a.b + k)) (a.w % 8))
+    omega (arith, c.loop-k.invariant.points, count-up_to (left_at a.s.now a.a a.b) (8 * c.loop-k.k), c.label_byte-2.ensures.points, count-up_to (left_at a.s.now (a.a + k) (a.b + k)) (a.w % 8))
 
 pub returns : goal.returns
 returns c =
@@ -34,4 +34,4 @@ returns c =
     let k = a.w / 8 in
     let e : l.k ≡ k = omega arith in
     row_more a.at (8 * k) (a.w % 8) a.w (left_at a.s.now a.a a.b) _ a.v a.labels.now l.labels _ l.n _ (omega arith) (λ j h. left_on a.s.now a.a a.b k j)
-    (subst (λ (n : ℕ). RowLabelled a.at (8 * n) (left_at a.s.now a.a a.b) a.v a.labels.now l.labels l.n) e l.invariant) c.label_byte.ensures
+    (subst (λ (n : ℕ). RowLabelled a.at (8 * n) (left_at a.s.now a.a a.b) a.v a.labels.now l.labels l.n) e l.invariant) c.label_byte-2.ensures

@@ -19,7 +19,7 @@ erode_times-requires c =
     let a = c.args in
     let k = c.args.f.sheet in
     let q = sheet-bytes k in
-    let v = loaded a.f.w a.f.h a.f.p a.image.now a.out.now a.work.now _ q c.requires.0 c.copy_from_slice.ensures.after in
+    let v = loaded a.f.w a.f.h a.f.p a.image.now a.out.now a.work.now _ q c.requires.0 c.copy.ensures in
     (omega (arith, v.size, c.requires.0.work, q), c.requires.1, v.clean)
 
 pub dilate_times-clipped-requires : goal.dilate_times-clipped-requires
@@ -27,7 +27,7 @@ dilate_times-clipped-requires c =
     let a = c.args in
     let k = c.args.f.sheet in
     let q = sheet-bytes k in
-    let v = loaded a.f.w a.f.h a.f.p a.image.now a.out.now a.work.now _ q c.requires.0 c.copy_from_slice.ensures.after in
+    let v = loaded a.f.w a.f.h a.f.p a.image.now a.out.now a.work.now _ q c.requires.0 c.copy.ensures in
     let m = c.erode_times.ensures in
     let el = element a.element c.requires.1 in (
       omega (arith, v.size, m.size, c.requires.0.work, q),
@@ -40,7 +40,7 @@ returns c =
     let a = c.args in
     let p = a.f.p in
     let q = sheet-bytes c.args.f.sheet in
-    let v = loaded a.f.w a.f.h p a.image.now a.out.now a.work.now _ q c.requires.0 c.copy_from_slice.ensures.after in
+    let v = loaded a.f.w a.f.h p a.image.now a.out.now a.work.now _ q c.requires.0 c.copy.ensures in
     let B = offsets a.element in
     let X = image_set a.f.w a.f.h a.image.now in
     let on = image_on a.f.w a.f.h a.image.now in
@@ -50,7 +50,7 @@ returns c =
     record {
       image =
           wrote a.f.w a.f.h p _ (dilate (times B a.dilations) (erode (times B a.erosions) X)) a.image.now a.work.now _ _ _ _ q
-          (falls_on a.f.w a.f.h (times B a.dilations) (erode (times B a.erosions) X) o stays) (c.requires.0.image ∙ sym q) c.copy_from_slice.ensures.after
+          (falls_on a.f.w a.f.h (times B a.dilations) (erode (times B a.erosions) X) o stays) (c.requires.0.image ∙ sym q) c.copy.ensures
           (folded-first a.f.w a.f.h p a.element a.erosions a.dilations c.requires.1 X _ _ _ q on stays m c.dilate_times-clipped.ensures.plane)
           c.hand_out.ensures;
       clipped = c.dilate_times-clipped.ensures.clipped ∙ ap (falls_off a.f.w a.f.h (times B a.dilations)) (first-image q o m) ∙ stays;

@@ -16,7 +16,7 @@ overflow_sub-widen c =
     omega (arith, c.widen.ensures, widened_centre c.args.mask.fg m.fg-small m.centre)
 
 pub join_plane-requires : goal.join_plane-requires
-join_plane-requires c = (omega (arith, c.requires.0), omega (arith, ap length c.copy_from_slice.ensures.after, c.requires.0))
+join_plane-requires c = (omega (arith, c.requires.0), omega (arith, ap length c.copy.ensures, c.requires.0))
 
 pub widen-requires-2 : goal.widen-requires-2
 widen-requires-2 c =
@@ -30,5 +30,5 @@ pub returns : goal.returns
 returns c =
     let a = c.args in
     hits_done a.f.w a.f.h a.f.r a.mask.fg a.mask.bg _ _ a.image.now _ _ _ c.args.f.sheet.frame c.requires.0 c.requires.2 c.requires.3 (λ i. (c.slice_known-5-1.given i).fits)
-    c.widen.ensures c.widen-2.ensures c.copy_from_slice.ensures.after (both_asked a.f.r a.f.h _ _ a.image.now _ _ _ c.join_plane.ensures c.join_plane-2.ensures)
+    c.widen.ensures c.widen-2.ensures c.copy.ensures (both_asked a.f.r a.f.h _ _ a.image.now _ _ _ c.join_plane.ensures c.join_plane-2.ensures)
     c.clear.ensures
